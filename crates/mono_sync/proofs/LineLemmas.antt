@@ -1,15 +1,16 @@
 -- Tickets rise along a line.
-use Rattle.std.proofs.Common.{◌≡◌, ◌==◌, ◌+◌, ◌<◌, ◌≤◌, ℕ, Bool, true, false, not, cond, List, [], ◌∷◌, ◌++◌, Option, Some, None, Result, Ok, Err, refl, sym, ap, subst, ◌∙◌, inl, inr, arith}
-use Rattle.std.proofs.lemmas.Bool.Decides.{eqb_tells}
+use Rattle.std.proofs.Common.{◌≡◌, ◌==◌, ◌&&◌, ◌+◌, ◌<◌, ◌≤◌, ℕ, Bool, true, false, not, cond, MatchBool, List, [], ◌∷◌, ◌++◌, Option, Some, None, Ok, Err, refl, sym, ap, subst, arith}
 use Rattle.mono_sync.specs.declared.lines.Waiter.{Waiter}
 use Rattle.mono_sync.specs.declared.lines.Line.{Line}
+use Rattle.mono_sync.specs.declared.lines.Coming.{Coming}
+use Rattle.mono_sync.specs.declared.lines.Coming.TheVariants.{Waits, Free, Full}
 use Rattle.mono_sync.specs.declared.semaphores.Semaphore.{Semaphore}
 use Rattle.mono_sync.specs.declared.semaphores.TryAcquireError.TheVariants.{NoPermits, Closed}
 use Rattle.mono_sync.specs.declared.semaphores.Acquiring.TheVariants as acquiring
-use Rattle.mono_sync.specs.Lines.{without, left_by, renewed, Renews, Serves}
-use Rattle.mono_sync.specs.Semaphores.{Releases}
-use Rattle.mono_sync.specs.SemaphoreRuns.{Event, tried, asked, released, gave_up, closed, Step, Run}
+use Rattle.mono_sync.specs.Lines.{without, marked, holder_of, HasRoom, Marks, Comes, ComesOf, Leaves, LeavesOf, Joins, SameLine, Takes}
+use Rattle.mono_sync.specs.SemaphoreRuns.{Event, tried, asked, released, gave_up, closed, served, Step, Run}
 use Rattle.mono_sync.specs.Laws.{Rises, FirstComeFirstServed}
+use Rattle.mono_sync.proofs.WaitLemmas.{same}
 
 pub rises_low : (low high : ℕ) (ws : List Waiter) (next : ℕ) → high ≤ low → Rises low ws next → Rises high ws next
 rises_low low high [] next le r = omega arith
@@ -23,67 +24,108 @@ rises_if : (b : Bool) (low : ℕ) (w : Waiter) (ws : List Waiter) (next : ℕ) �
 rises_if true low w ws next above below rest = (above, below, rest)
 rises_if false low w ws next above below rest = rises_low (w.ticket + 1) low ws next (omega arith) rest
 
-pub rises_without : (low : ℕ) (ws : List Waiter) (next t : ℕ) → Rises low ws next → Rises low (without ws t) next
-rises_without low [] next t r = r
-rises_without low (w ∷ ws) next t (above, below, rest) = rises_if (not (w.ticket == t)) low w (without ws t) next above below (rises_without (w.ticket + 1) ws next t rest)
+pub rises_without : (low : ℕ) (ws : List Waiter) (next k u : ℕ) → Rises low ws next → Rises low (without ws k u) next
+rises_without low [] next k u r = r
+rises_without low (w ∷ ws) next k u (above, below, rest) = rises_if (not ((w.ticket == k) && (w.task == u))) low w (without ws k u) next above below (rises_without (w.ticket + 1) ws next k u rest)
 
-pub rises_left : (ws : List Waiter) (next : ℕ) (ticket : Option ℕ) → Rises 0 ws next → Rises 0 (left_by ws ticket) next
-rises_left ws next None r = r
-rises_left ws next (Some t) r = rises_without 0 ws next t r
+rises_marked_if : (b : Bool) (low k u next : ℕ) (w : Waiter) (ws : List Waiter) → (w.ticket == k) ≡ b → low ≤ w.ticket → w.ticket < next → Rises (w.ticket + 1) ws next → Rises (w.ticket + 1) (marked ws k u) next
+    → Rises low (cond b (record { ticket = k; task = u; has_left = true } ∷ ws) (w ∷ marked ws k u)) next
+rises_marked_if true low k u next w ws is above below rest more = subst (λ n. Rises low (record { ticket = n; task = u; has_left = true } ∷ ws) next) (same w.ticket k is) (above, below, rest)
+rises_marked_if false low k u next w ws is above below rest more = (above, below, more)
 
-same_ticket : (u t : ℕ) → (u == t) ≡ true → u ≡ t
-same_ticket u t is = elim (eqb_tells u t) [ inl here ↦ here.1 | inr apart ↦ absurd (false-true (sym apart.0 ∙ is)) ]
-  where
-    false-true : false ≡ true → ⊥
-    false-true e = cc
+rises_marked : (low : ℕ) (ws : List Waiter) (next k u : ℕ) → Rises low ws next → Rises low (marked ws k u) next
+rises_marked low [] next k u r = r
+rises_marked low (w ∷ ws) next k u (above, below, rest) = rises_marked_if (w.ticket == k) low k u next w ws refl above below rest (rises_marked (w.ticket + 1) ws next k u rest)
 
-rises_renewed_if : (b : Bool) (low t task next : ℕ) (w : Waiter) (ws : List Waiter) → (w.ticket == t) ≡ b → low ≤ w.ticket → w.ticket < next → Rises (w.ticket + 1) ws next → Rises (w.ticket + 1) (renewed ws t task) next
-    → Rises low (cond b (record { ticket = t; task = task } ∷ ws) (w ∷ renewed ws t task)) next
-rises_renewed_if true low t task next w ws is above below rest more = subst (λ n. Rises low (record { ticket = n; task = task } ∷ ws) next) (same_ticket w.ticket t is) (above, below, rest)
-rises_renewed_if false low t task next w ws is above below rest more = (above, below, more)
+abbrev pub Rising : Line → Type 0
+Rising l = Rises 0 l.waiters.items l.next
 
-rises_renewed : (low : ℕ) (ws : List Waiter) (next t task : ℕ) → Rises low ws next → Rises low (renewed ws t task) next
-rises_renewed low [] next t task r = r
-rises_renewed low (w ∷ ws) next t task (above, below, rest) = rises_renewed_if (w.ticket == t) low t task next w ws refl above below rest (rises_renewed (w.ticket + 1) ws next t task rest)
-
-pub along : (xs ys : List Waiter) (n m : ℕ) → ys ≡ xs → m ≡ n → Rises 0 xs n → Rises 0 ys m
+along : (xs ys : List Waiter) (n m : ℕ) → ys ≡ xs → m ≡ n → Rises 0 xs n → Rises 0 ys m
 along xs ys n m p q r = subst (λ k. Rises 0 ys k) (sym q) (subst (λ zs. Rises 0 zs n) (sym p) r)
 
--- Another task in the place of a future does not change the tickets.
-pub renews_rises : (a : Line) (ticket : Option ℕ) (task : ℕ) (b : Line) → Renews a ticket task b → Rises 0 a.waiters.items a.next → Rises 0 b.waiters.items b.next
-renews_rises a None task b s r = absurd s
-renews_rises a (Some t) task b s r = along (renewed a.waiters.items t task) b.waiters.items a.next b.next s.0 s.2 (rises_renewed 0 a.waiters.items a.next t task r)
+pub kept_line : (a b : Line) → b ≡ a → Rising a → Rising b
+kept_line a b same r = subst Rising (sym same) r
+
+pub rests_rises : (a b : Line) → SameLine a b → Rising a → Rising b
+rests_rises a b s r = along a.waiters.items b.waiters.items a.next b.next s.0 s.2 r
+
+marks_rises : (a b : Line) (k u : ℕ) → Marks a k u b → Rising a → Rising b
+marks_rises a b k u s r = along (marked a.waiters.items k u) b.waiters.items a.next b.next s.0 s.2 (rises_marked 0 a.waiters.items a.next k u r)
+
+module _ (a b : Line) (k me : ℕ) (rising : Rising a) where
+  comes_if : (room : ℕ) (r : Coming) (u : ℕ) (c : Bool) → MatchBool c ((r ≡ Waits) × (b ≡ a)) (HasRoom b room r × Marks a k u b) → Rising b
+  comes_if room r u true p = kept_line a b p.1 rising
+  comes_if room r u false p = marks_rises a b k u p.1 rising
+
+  comes_of : (room : ℕ) (r : Coming) (o : Option ℕ) → ComesOf o a k me room r b → Rising b
+  comes_of room r None p = along a.waiters.items b.waiters.items a.next b.next p.1.0 p.1.2 rising
+  comes_of room r (Some u) p = comes_if room r u (u == me) p
+
+  leaves_if : (u : ℕ) (c : Bool) → MatchBool c ((b.waiters.items ≡ without a.waiters.items k me) × (b.granted ≡ a.granted) × (b.next ≡ a.next)) (Marks a k u b) → Rising b
+  leaves_if u true p = along (without a.waiters.items k me) b.waiters.items a.next b.next p.0 p.2 (rises_without 0 a.waiters.items a.next k me rising)
+  leaves_if u false p = marks_rises a b k u p rising
+
+  leaves_of : (o : Option ℕ) → LeavesOf o a k me b → Rising b
+  leaves_of None p = along a.waiters.items b.waiters.items a.next b.next p.0 p.2 rising
+  leaves_of (Some u) p = leaves_if u (u == me) p
+
+pub comes_rises : (a b : Line) (ticket : Option ℕ) (me room : ℕ) (r : Coming) → Comes a ticket me room r b → Rising a → Rising b
+comes_rises a b None me room r p rising = kept_line a b p.1 rising
+comes_rises a b (Some k) me room r p rising = comes_of a b k me rising room r (holder_of a.waiters.items k) p
+
+pub leaves_rises : (a b : Line) (ticket : Option ℕ) (me : ℕ) → Leaves a ticket me b → Rising a → Rising b
+leaves_rises a b None me p rising = kept_line a b p rising
+leaves_rises a b (Some k) me p rising = leaves_of a b k me rising (holder_of a.waiters.items k) p
+
+pub joined_rises : (a b : Line) (me t : ℕ) → Joins a me (Ok t) b → Rising a → Rising b
+joined_rises a b me t p rising = along (a.waiters.items ++ record { ticket = a.next; task = me; has_left = false } ∷ []) b.waiters.items (a.next + 1) b.next p.1 p.3 (rises_end 0 a.waiters.items a.next (record { ticket = a.next; task = me; has_left = false }) refl rising)
+
+pub joins_rises : (a l b : Line) (ticket : Option ℕ) (me room t : ℕ) (r : Coming) → Comes a ticket me room r l → Joins l me (Ok t) b → Rising a → Rising b
+joins_rises a l b ticket me room t r p q rising = joined_rises l b me t q (comes_rises a l ticket me room r p rising)
+
+pub stays_rises : (a l b : Line) (ticket : Option ℕ) (me room : ℕ) (r : Coming) → Comes a ticket me room r l → SameLine l b → Rising a → Rising b
+stays_rises a l b ticket me room r p q rising = rests_rises l b q (comes_rises a l ticket me room r p rising)
 
 tail_rises : (w : Waiter) (ws : List Waiter) (next : ℕ) → Rises 0 (w ∷ ws) next → Rises (w.ticket + 1) ws next
 tail_rises w ws next r = r.2
 
-pub served_rises : (ws : List Waiter) (granted room next : ℕ) (w : Waiter) (b : Line) → b.next ≡ next → Serves ws granted room (Some w) b → Rises 0 ws next → Rises (w.ticket + 1) b.waiters.items b.next
-served_rises ws granted room next w b same s r = subst (λ k. Rises (w.ticket + 1) b.waiters.items k) (sym same) (tail_rises w b.waiters.items next (subst (λ zs. Rises 0 zs next) s.1 r))
+popped_rises : (a b : Line) (w : Waiter) → a.waiters.items ≡ w ∷ b.waiters.items → b.next ≡ a.next → Rising a → Rises (w.ticket + 1) b.waiters.items b.next
+popped_rises a b w first next r = subst (λ k. Rises (w.ticket + 1) b.waiters.items k) (sym next) (tail_rises w b.waiters.items a.next (subst (λ zs. Rises 0 zs a.next) first r))
 
-pub serves_rises : (ws : List Waiter) (granted room next : ℕ) (first : Option Waiter) (b : Line) → b.next ≡ next → Serves ws granted room first b → Rises 0 ws next → Rises 0 b.waiters.items b.next
-serves_rises ws granted room next None b same s r = along ws b.waiters.items next b.next s.1 same r
-serves_rises ws granted room next (Some w) b same s r = rises_low (w.ticket + 1) 0 b.waiters.items b.next (omega arith) (served_rises ws granted room next w b same s r)
+pub popped_rising : (a b : Line) (w : Waiter) → a.waiters.items ≡ w ∷ b.waiters.items → b.next ≡ a.next → Rising a → Rising b
+popped_rising a b w first next r = rises_low (w.ticket + 1) 0 b.waiters.items b.next (omega arith) (popped_rises a b w first next r)
 
-moved : (a b : Semaphore) → b ≡ a → Rises 0 a.line.waiters.items a.line.next → Rises 0 b.line.waiters.items b.line.next
-moved a b same r = subst (λ s. Rises 0 s.line.waiters.items s.line.next) (sym same) r
+-- the tickets that are left are greater than that of the first, which was taken out
+pub first_rises : (c : Bool) (room : ℕ) (a b : Line) (w : Waiter) → Takes c room a (Some w) b → Rising a → Rises (w.ticket + 1) b.waiters.items b.next
+first_rises true room a b w s r = popped_rises a b w s.0 s.2 r
+first_rises false room a b w s r = popped_rises a b w s.1 s.3 r
 
-step_rises : (e : Event) (a b : Semaphore) → Rises 0 a.line.waiters.items a.line.next → Step a e b → Rises 0 b.line.waiters.items b.line.next
-step_rises (tried (Ok done)) a b r s = subst (λ l. Rises 0 l.waiters.items l.next) (sym s.3) r
+pub takes_rises : (c : Bool) (room : ℕ) (a b : Line) (first : Option Waiter) → Takes c room a first b → Rising a → Rising b
+takes_rises true room a b None s r = kept_line a b s.1 r
+takes_rises false room a b None s r = kept_line a b s.1 r
+takes_rises c room a b (Some w) s r = rises_low (w.ticket + 1) 0 b.waiters.items b.next (omega arith) (first_rises c room a b w s r)
+
+moved : (a b : Semaphore) → b ≡ a → Rising a.line → Rising b.line
+moved a b same r = kept_line a.line b.line (ap (λ s. s.line) same) r
+
+step_rises : (e : Event) (a b : Semaphore) → Rising a.line → Step a e b → Rising b.line
+step_rises (tried (Ok done)) a b r s = kept_line a.line b.line s.3 r
 step_rises (tried (Err Closed)) a b r s = moved a b s.1 r
 step_rises (tried (Err NoPermits)) a b r s = moved a b s.2 r
-step_rises (asked ticket task acquiring.Waits) a b r s = renews_rises a.line ticket task b.line s.2 r
-step_rises (asked ticket task acquiring.Closed) a b r s = along _ _ _ _ s.3.0 s.3.2 r
-step_rises (asked ticket task acquiring.Acquired) a b r s = along _ _ _ _ s.4.0 s.4.2 r
-step_rises (asked ticket task acquiring.Memory) a b r s = along _ _ _ _ s.4.0 s.4.2 r
-step_rises (asked ticket task (acquiring.Joined t)) a b r s = along _ _ _ _ s.5 s.7 (rises_end 0 _ _ (record { ticket = t; task = task }) s.4 r)
-step_rises (released (Ok first)) a b r s = serves_rises _ _ _ _ first b.line s.3 s.2 r
+step_rises (asked ticket task acquiring.Waits) a b r s = comes_rises a.line b.line ticket task a.available Waits s.1 r
+step_rises (asked ticket task acquiring.Closed) a b r s = leaves_rises a.line b.line ticket task s.1 r
+step_rises (asked ticket task acquiring.Acquired) a b r s = comes_rises a.line b.line ticket task a.available Free s.1 r
+step_rises (asked ticket task acquiring.Memory) a b r s = stays_rises a.line s.1.0 b.line ticket task a.available Full s.1.1.0 s.1.1.1 r
+step_rises (asked ticket task (acquiring.Joined t)) a b r s = joins_rises a.line s.1.0 b.line ticket task a.available t Full s.1.1.0 s.1.1.1 r
+step_rises (released (Ok done)) a b r s = kept_line a.line b.line s.2 r
 step_rises (released (Err e)) a b r s = moved a b s.1 r
-step_rises (gave_up ticket first) a b r s = serves_rises _ _ _ _ first b.line s.2 s.1 (rises_left _ _ ticket r)
-step_rises (closed woken) a b r s = subst (λ ws. Rises 0 ws b.line.next) (sym s.1) (omega arith)
+step_rises (gave_up ticket task) a b r s = leaves_rises a.line b.line ticket task s.1 r
+step_rises closed a b r s = kept_line a.line b.line s.1 r
+step_rises (served first) a b r s = takes_rises a.is_closed a.available a.line b.line first s.0 r
 
-run_rises : (es : List Event) (a b : Semaphore) → Rises 0 a.line.waiters.items a.line.next → Run a es b → Rises 0 b.line.waiters.items b.line.next
+run_rises : (es : List Event) (a b : Semaphore) → Rising a.line → Run a es b → Rising b.line
 run_rises [] a b r run = moved a b run r
 run_rises (e ∷ es) a b r (m, step, rest) = run_rises es m b (step_rises e a m r step) rest
 
 pub first_served : FirstComeFirstServed
-first_served es a b c w r run s = served_rises _ _ _ _ w c.line s.3 s.2 (run_rises es a b r run)
+first_served es a b c w r run s = first_rises b.is_closed b.available b.line c.line w s.0 (run_rises es a b r run)

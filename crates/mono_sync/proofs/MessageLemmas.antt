@@ -1,11 +1,11 @@
 -- Messages come out in the order in which they went in.
-use Rattle.std.proofs.Common.{◌≡◌, ℕ, Bool, true, false, List, [], ◌∷◌, ◌++◌, Result, Ok, Err, refl, sym, ◌∙◌, ap, append_assoc, append-nil}
+use Rattle.std.proofs.Common.{◌≡◌, Bool, true, false, List, [], ◌∷◌, ◌++◌, Ok, Err, refl, sym, ◌∙◌, ap, append_assoc, append-nil}
 use Rattle.mono_sync.specs.declared.mpsc.Channel.{Channel}
 use Rattle.mono_sync.specs.declared.mpsc.TrySendError.TheVariants as unsent
 use Rattle.mono_sync.specs.declared.mpsc.TryRecvError.TheVariants as unreceived
 use Rattle.mono_sync.specs.declared.mpsc.Sending.TheVariants as sending
 use Rattle.mono_sync.specs.declared.mpsc.Receiving.TheVariants as receiving
-use Rattle.mono_sync.specs.MpscRuns.{Event, tried_to_send, tried_to_receive, asked_to_send, asked_to_receive, gave_up_send, gave_up_receive, closed, Step, Run, sent_by, sent, received_by, received}
+use Rattle.mono_sync.specs.MpscRuns.{Event, tried_to_send, tried_to_receive, asked_to_send, asked_to_receive, gave_up_send, gave_up_receive, closed, served_sender, served_receiver, Step, Run, sent_by, sent, received_by, received}
 use Rattle.mono_sync.specs.Laws.{InOrder, NothingAfterClose}
 
 both : (b : Bool) → b ≡ true → b ≡ false → ⊥
@@ -22,26 +22,28 @@ module _ {T : Type 0} where
   of a b same = ap (λ c. c.queue.items) same
 
   step_in_order : (e : Event T) (a b : Channel T) → Step a e b → received_by e ++ b.queue.items ≡ a.queue.items ++ sent_by e
-  step_in_order (tried_to_send x (Ok first)) a b s = s.2.0
+  step_in_order (tried_to_send x (Ok done)) a b s = s.2.0
   step_in_order (tried_to_send x (Err (unsent.Closed y))) a b s = stays _ _ (of a b s.2)
   step_in_order (tried_to_send x (Err (unsent.Full y))) a b s = stays _ _ (of a b s.3)
   step_in_order (tried_to_send x (Err (unsent.Memory y))) a b s = stays _ _ s.3.0
-  step_in_order (tried_to_receive (Ok (x, first))) a b s = first_out x _ _ s.0.0
+  step_in_order (tried_to_receive (Ok x)) a b s = first_out x _ _ s.0.0
   step_in_order (tried_to_receive (Err unreceived.Empty)) a b s = stays _ _ (of a b s.2)
-  step_in_order (tried_to_receive (Err unreceived.Disconnected)) a b s = stays _ _ s.2.0
-  step_in_order (asked_to_send ticket x task (sending.Sent first)) a b s = s.3.0
-  step_in_order (asked_to_send ticket x task (sending.Closed y)) a b s = stays _ _ (of a b s.2)
-  step_in_order (asked_to_send ticket x task (sending.Memory y first)) a b s = stays _ _ s.3
-  step_in_order (asked_to_send ticket x task (sending.Joined t y)) a b s = stays _ _ s.8
+  step_in_order (tried_to_receive (Err unreceived.Disconnected)) a b s = stays _ _ (of a b s.2)
+  step_in_order (asked_to_send ticket x task sending.Sent) a b s = s.2.0
+  step_in_order (asked_to_send ticket x task (sending.Closed y)) a b s = stays _ _ s.3.0
+  step_in_order (asked_to_send ticket x task (sending.Memory y)) a b s = stays _ _ s.3.0
+  step_in_order (asked_to_send ticket x task (sending.Joined t y)) a b s = stays _ _ s.3.0
   step_in_order (asked_to_send ticket x task (sending.Waits y)) a b s = stays _ _ s.3.0
-  step_in_order (asked_to_receive ticket task (receiving.Received x first)) a b s = first_out x _ _ s.0.0
-  step_in_order (asked_to_receive ticket task receiving.Closed) a b s = stays _ _ s.2.0
-  step_in_order (asked_to_receive ticket task receiving.Memory) a b s = stays _ _ s.3
-  step_in_order (asked_to_receive ticket task (receiving.Joined t)) a b s = stays _ _ s.7
+  step_in_order (asked_to_receive ticket task (receiving.Received x)) a b s = first_out x _ _ s.0.0
+  step_in_order (asked_to_receive ticket task receiving.Closed) a b s = stays _ _ s.3.0
+  step_in_order (asked_to_receive ticket task receiving.Memory) a b s = stays _ _ s.2.0
+  step_in_order (asked_to_receive ticket task (receiving.Joined t)) a b s = stays _ _ s.2.0
   step_in_order (asked_to_receive ticket task receiving.Waits) a b s = stays _ _ s.2.0
-  step_in_order (gave_up_send ticket first) a b s = stays _ _ s.0
-  step_in_order (gave_up_receive ticket first) a b s = stays _ _ s.0
-  step_in_order (closed senders receivers) a b s = stays _ _ (ap (λ q. q.items) s.4)
+  step_in_order (gave_up_send ticket task) a b s = stays _ _ s.1.0
+  step_in_order (gave_up_receive ticket task) a b s = stays _ _ s.1.0
+  step_in_order closed a b s = stays _ _ (ap (λ q. q.items) s.0)
+  step_in_order (served_sender first) a b s = stays _ _ (ap (λ q. q.items) s.1)
+  step_in_order (served_receiver first) a b s = stays _ _ (ap (λ q. q.items) s.1)
 
   joined : (r rs b m a s ss : List T) → r ++ m ≡ a ++ s → rs ++ b ≡ m ++ ss → (r ++ rs) ++ b ≡ a ++ (s ++ ss)
   joined r rs b m a s ss one rest =
@@ -55,26 +57,28 @@ module _ {T : Type 0} where
   shut_stays a b shut same = ap (λ c. c.is_closed) same ∙ shut
 
   step_shut : (e : Event T) (a b : Channel T) → a.is_closed ≡ true → Step a e b → (b.is_closed ≡ true) × (sent_by e ≡ [])
-  step_shut (tried_to_send x (Ok first)) a b c s = absurd (both _ c s.0)
+  step_shut (tried_to_send x (Ok done)) a b c s = absurd (both _ c s.0)
   step_shut (tried_to_send x (Err (unsent.Closed y))) a b c s = (shut_stays a b c s.2, refl)
   step_shut (tried_to_send x (Err (unsent.Full y))) a b c s = (shut_stays a b c s.3, refl)
   step_shut (tried_to_send x (Err (unsent.Memory y))) a b c s = absurd (both _ c s.1)
-  step_shut (tried_to_receive (Ok (x, first))) a b c s = (s.0.3.1 ∙ c, refl)
+  step_shut (tried_to_receive (Ok x)) a b c s = (s.0.2.1 ∙ c, refl)
   step_shut (tried_to_receive (Err unreceived.Empty)) a b c s = (shut_stays a b c s.2, refl)
-  step_shut (tried_to_receive (Err unreceived.Disconnected)) a b c s = (s.2.3.1 ∙ c, refl)
-  step_shut (asked_to_send ticket x task (sending.Sent first)) a b c s = absurd (both _ c s.0)
-  step_shut (asked_to_send ticket x task (sending.Closed y)) a b c s = (shut_stays a b c s.2, refl)
-  step_shut (asked_to_send ticket x task (sending.Memory y first)) a b c s = absurd (both _ c s.1)
+  step_shut (tried_to_receive (Err unreceived.Disconnected)) a b c s = (shut_stays a b c s.2, refl)
+  step_shut (asked_to_send ticket x task sending.Sent) a b c s = absurd (both _ c s.0)
+  step_shut (asked_to_send ticket x task (sending.Closed y)) a b c s = (s.3.2.1 ∙ c, refl)
+  step_shut (asked_to_send ticket x task (sending.Memory y)) a b c s = absurd (both _ c s.1)
   step_shut (asked_to_send ticket x task (sending.Joined t y)) a b c s = absurd (both _ c s.1)
   step_shut (asked_to_send ticket x task (sending.Waits y)) a b c s = absurd (both _ c s.1)
-  step_shut (asked_to_receive ticket task (receiving.Received x first)) a b c s = (s.0.3.1 ∙ c, refl)
-  step_shut (asked_to_receive ticket task receiving.Closed) a b c s = (s.2.3.1 ∙ c, refl)
+  step_shut (asked_to_receive ticket task (receiving.Received x)) a b c s = (s.0.2.1 ∙ c, refl)
+  step_shut (asked_to_receive ticket task receiving.Closed) a b c s = (s.3.2.1 ∙ c, refl)
   step_shut (asked_to_receive ticket task receiving.Memory) a b c s = absurd (both _ c s.0)
   step_shut (asked_to_receive ticket task (receiving.Joined t)) a b c s = absurd (both _ c s.0)
   step_shut (asked_to_receive ticket task receiving.Waits) a b c s = absurd (both _ c s.0)
-  step_shut (gave_up_send ticket first) a b c s = (s.4.1 ∙ c, refl)
-  step_shut (gave_up_receive ticket first) a b c s = (s.4.1 ∙ c, refl)
-  step_shut (closed senders receivers) a b c s = (s.6, refl)
+  step_shut (gave_up_send ticket task) a b c s = (s.1.2.1 ∙ c, refl)
+  step_shut (gave_up_receive ticket task) a b c s = (s.1.2.1 ∙ c, refl)
+  step_shut closed a b c s = (s.4, refl)
+  step_shut (served_sender first) a b c s = (s.3.1 ∙ c, refl)
+  step_shut (served_receiver first) a b c s = (s.3.1 ∙ c, refl)
 
   run_shut : (es : List (Event T)) (a b : Channel T) → a.is_closed ≡ true → Run a es b → (b.is_closed ≡ true) × (sent es ≡ [])
   run_shut [] a b c run = (shut_stays a b c run, refl)

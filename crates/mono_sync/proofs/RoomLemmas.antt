@@ -1,13 +1,17 @@
 -- A channel has no more messages than it may.
-use Rattle.std.proofs.Common.{◌≡◌, ◌<◌, ◌≤◌, ℕ, List, [], ◌∷◌, ◌++◌, length, Result, Ok, Err, ap, ◌∙◌, arith, length-append}
+use Rattle.std.proofs.Common.{◌≡◌, ◌<◌, ◌≤◌, ℕ, List, [], ◌∷◌, ◌++◌, length, Ok, Err, ap, ◌∙◌, arith, length-append}
 use Rattle.mono_sync.specs.declared.mpsc.Channel.{Channel}
 use Rattle.mono_sync.specs.declared.mpsc.TrySendError.TheVariants as unsent
 use Rattle.mono_sync.specs.declared.mpsc.TryRecvError.TheVariants as unreceived
 use Rattle.mono_sync.specs.declared.mpsc.Sending.TheVariants as sending
 use Rattle.mono_sync.specs.declared.mpsc.Receiving.TheVariants as receiving
 use Rattle.mono_sync.specs.Mpsc.{places}
-use Rattle.mono_sync.specs.MpscRuns.{Event, tried_to_send, tried_to_receive, asked_to_send, asked_to_receive, gave_up_send, gave_up_receive, closed, Step, Run}
+use Rattle.mono_sync.specs.MpscRuns.{Event, tried_to_send, tried_to_receive, asked_to_send, asked_to_receive, gave_up_send, gave_up_receive, closed, served_sender, served_receiver, Step, Run}
 use Rattle.mono_sync.specs.Laws.{StaysBounded}
+use Rattle.mono_sync.proofs.FreeLemmas.{free_room}
+
+more_room : (n m : ℕ) → n < m → 0 < m
+more_room n m less = omega (arith, less)
 
 module _ {T : Type 0} where
   record Within (a b : Channel T) : Type 0 where
@@ -23,32 +27,34 @@ module _ {T : Type 0} where
   shorter : (x : T) (a b : Channel T) → a.queue.items ≡ x ∷ b.queue.items → b.bound ≡ a.bound → Within a b
   shorter x a b p q = let h : length a.queue.items ≡ length (x ∷ b.queue.items) = ap length p in record { bound = q; within = λ is. omega (arith, h, q, is) }
 
-  longer : (x : T) (granted : ℕ) (a b : Channel T) → granted < places a → b.queue.items ≡ a.queue.items ++ x ∷ [] → b.bound ≡ a.bound → Within a b
-  longer x granted a b room p q =
+  longer : (x : T) (a b : Channel T) → 0 < places a → b.queue.items ≡ a.queue.items ++ x ∷ [] → b.bound ≡ a.bound → Within a b
+  longer x a b room p q =
       let h : length b.queue.items ≡ length (a.queue.items ++ x ∷ []) = ap length p in
       record { bound = q; within = λ is. omega (arith, h, length-append a.queue.items (x ∷ []), q, room, is) }
 
   step_within : (e : Event T) (a b : Channel T) → Step a e b → Within a b
-  step_within (tried_to_send x (Ok first)) a b s = longer x _ a b s.1 s.2.0 s.2.3.0
+  step_within (tried_to_send x (Ok done)) a b s = longer x a b (more_room _ _ s.1) s.2.0 s.2.2.0
   step_within (tried_to_send x (Err (unsent.Closed y))) a b s = equal a b s.2
   step_within (tried_to_send x (Err (unsent.Full y))) a b s = equal a b s.3
   step_within (tried_to_send x (Err (unsent.Memory y))) a b s = same a b s.3.0 s.3.3.0
-  step_within (tried_to_receive (Ok (x, first))) a b s = shorter x a b s.0.0 s.0.3.0
+  step_within (tried_to_receive (Ok x)) a b s = shorter x a b s.0.0 s.0.2.0
   step_within (tried_to_receive (Err unreceived.Empty)) a b s = equal a b s.2
-  step_within (tried_to_receive (Err unreceived.Disconnected)) a b s = same a b s.2.0 s.2.3.0
-  step_within (asked_to_send ticket x task (sending.Sent first)) a b s = longer x _ a b s.2 s.3.0 s.3.3.0
-  step_within (asked_to_send ticket x task (sending.Closed y)) a b s = equal a b s.2
-  step_within (asked_to_send ticket x task (sending.Memory y first)) a b s = same a b s.3 s.7.0
-  step_within (asked_to_send ticket x task (sending.Joined t y)) a b s = same a b s.8 s.10.0
-  step_within (asked_to_send ticket x task (sending.Waits y)) a b s = same a b s.3.0 s.3.3.0
-  step_within (asked_to_receive ticket task (receiving.Received x first)) a b s = shorter x a b s.0.0 s.0.3.0
-  step_within (asked_to_receive ticket task receiving.Closed) a b s = same a b s.2.0 s.2.3.0
-  step_within (asked_to_receive ticket task receiving.Memory) a b s = same a b s.3 s.6.0
-  step_within (asked_to_receive ticket task (receiving.Joined t)) a b s = same a b s.7 s.9.0
-  step_within (asked_to_receive ticket task receiving.Waits) a b s = same a b s.2.0 s.2.3.0
-  step_within (gave_up_send ticket first) a b s = same a b s.0 s.4.0
-  step_within (gave_up_receive ticket first) a b s = same a b s.0 s.4.0
-  step_within (closed senders receivers) a b s = same a b (ap (λ q. q.items) s.4) s.5
+  step_within (tried_to_receive (Err unreceived.Disconnected)) a b s = equal a b s.2
+  step_within (asked_to_send ticket x task sending.Sent) a b s = longer x a b (free_room a.senders b.senders ticket task (places a) s.1) s.2.0 s.2.2.0
+  step_within (asked_to_send ticket x task (sending.Closed y)) a b s = same a b s.3.0 s.3.2.0
+  step_within (asked_to_send ticket x task (sending.Memory y)) a b s = same a b s.3.0 s.3.2.0
+  step_within (asked_to_send ticket x task (sending.Joined t y)) a b s = same a b s.3.0 s.3.2.0
+  step_within (asked_to_send ticket x task (sending.Waits y)) a b s = same a b s.3.0 s.3.2.0
+  step_within (asked_to_receive ticket task (receiving.Received x)) a b s = shorter x a b s.0.0 s.0.2.0
+  step_within (asked_to_receive ticket task receiving.Closed) a b s = same a b s.3.0 s.3.2.0
+  step_within (asked_to_receive ticket task receiving.Memory) a b s = same a b s.2.0 s.2.2.0
+  step_within (asked_to_receive ticket task (receiving.Joined t)) a b s = same a b s.2.0 s.2.2.0
+  step_within (asked_to_receive ticket task receiving.Waits) a b s = same a b s.2.0 s.2.2.0
+  step_within (gave_up_send ticket task) a b s = same a b s.1.0 s.1.2.0
+  step_within (gave_up_receive ticket task) a b s = same a b s.1.0 s.1.2.0
+  step_within closed a b s = same a b (ap (λ q. q.items) s.0) s.3
+  step_within (served_sender first) a b s = same a b (ap (λ q. q.items) s.1) s.3.0
+  step_within (served_receiver first) a b s = same a b (ap (λ q. q.items) s.1) s.3.0
 
   run_within : (es : List (Event T)) (a b : Channel T) → Run a es b → Within a b
   run_within [] a b run = equal a b run

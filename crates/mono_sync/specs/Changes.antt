@@ -1,16 +1,13 @@
 -- The answer and the effect of one poll of a future that waits for another value.
-use Rattle.std.specs.Prelude.{⊤, ◌≡◌, ◌⊎◌, ℕ, List, Option, Some, None, Result, Ok, Err}
-use Rattle.mono_model.specs.Tasks.{Tasks, all_woken}
+use Rattle.std.specs.Prelude.{⊤, ◌≡◌, ◌⊎◌, ℕ, Option, Some, Result, Ok, Err}
+use Rattle.mono_model.specs.Tasks.{Tasks}
 use Rattle.mono_model.specs.declared.poll.Poll.{Poll}
 use Rattle.mono_model.specs.declared.poll.Poll.TheVariants.{Ready, Pending}
-use Rattle.mono_sync.specs.declared.lines.Waiter.{Waiter}
 use Rattle.mono_sync.specs.declared.watch.Watch.{Watch}
-use Rattle.mono_sync.specs.declared.watch.Replaced.{Replaced}
 use Rattle.mono_sync.specs.declared.watch.Changing.TheVariants as changing
 use Rattle.mono_sync.specs.declared.changes.ChangedError.{ChangedError}
 use Rattle.mono_sync.specs.declared.changes.ChangedError.TheVariants.{Closed, Memory}
-use Rattle.mono_sync.specs.Watches.{Sends, Changes, GivesUp, Closes}
-use Rattle.mono_sync.specs.Wakes.{tasks_of}
+use Rattle.mono_sync.specs.Watches.{Changes, GivesUp}
 
 module _ {T C : Type 0} (part : C → Watch T) (number : C → ℕ) (work : C → Tasks ⊤) where
   -- The answer of the watched value is the future's, and no task is woken. A pending future is in the line with its
@@ -21,11 +18,6 @@ module _ {T C : Type 0} (part : C → Watch T) (number : C → ℕ) (work : C �
   ChangedPolls seen ticket c (Ready (Err Memory)) left d = Changes (part c) seen ticket (number c) changing.Memory (part d) × (work d ≡ work c)
   ChangedPolls seen ticket c Pending left d = ((left ≡ ticket) × Changes (part c) seen ticket (number c) changing.Waits (part d) × (work d ≡ work c)) ⊎ ((t : ℕ) × ((left ≡ Some t) × Changes (part c) seen ticket (number c) (changing.Joined t) (part d) × (work d ≡ work c)))
 
-  -- The value is replaced and all waiting tasks are woken in order, or the new value comes back.
-  abbrev pub SendWakes : C → T → Result T T → C → Type 0
-  SendWakes c x (Ok old) d = (r : Replaced T) × (Sends (part c) x (Ok r) (part d) × (old ≡ r.old) × (work d ≡ all_woken (work c) (tasks_of r.woken.items)))
-  SendWakes c x (Err y) d = Sends (part c) x (Err y) (part d) × (work d ≡ work c)
-
-  -- All waiting tasks leave the line and are woken in order.
-  abbrev pub CloseWakes : C → C → Type 0
-  CloseWakes c d = (woken : List Waiter) × (Closes (part c) woken (part d) × (work d ≡ all_woken (work c) (tasks_of woken)))
+  -- The future leaves the line.
+  abbrev pub ChangedCancels : Option ℕ → C → C → Type 0
+  ChangedCancels ticket c d = GivesUp (part c) ticket (number c) (part d) × (work d ≡ work c)

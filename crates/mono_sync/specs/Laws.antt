@@ -1,10 +1,10 @@
 -- Laws that hold over any calls of channels and of a semaphore.
-use Rattle.std.specs.Prelude.{⊤, true, false, ◌≡◌, ◌<◌, ◌≤◌, ◌+◌, ℕ, List, [], ◌∷◌, ◌++◌, length, Option, Some, None, Result, Ok, Err}
+use Rattle.std.specs.Prelude.{true, false, ◌≡◌, ◌<◌, ◌≤◌, ◌+◌, ℕ, List, [], ◌∷◌, ◌++◌, length, Some, None}
 use Rattle.mono_sync.specs.declared.lines.Waiter.{Waiter}
 use Rattle.mono_sync.specs.declared.semaphores.Semaphore.{Semaphore}
 use Rattle.mono_sync.specs.declared.mpsc.Channel.{Channel}
-use Rattle.mono_sync.specs.Semaphores.{Releases}
-use Rattle.mono_sync.specs.Mpsc.{Pushes, Pops}
+use Rattle.mono_sync.specs.Semaphores.{Pays}
+use Rattle.mono_sync.specs.Mpsc.{PaysSender, PaysReceiver}
 use Rattle.mono_sync.specs.SemaphoreRuns as semaphore
 use Rattle.mono_sync.specs.MpscRuns as channel
 use Rattle.mono_sync.specs.declared.oneshot.Oneshot.{Oneshot}
@@ -22,14 +22,14 @@ Rises low (w ∷ ws) next = (low ≤ w.ticket) × (w.ticket < next) × Rises (w.
 
 -- Tickets rise along a line, whatever was called. So the first, which is served, has the least.
 abbrev pub FirstComeFirstServed : Type 0
-FirstComeFirstServed = (es : List semaphore.Event) (a b c : Semaphore) (w : Waiter) → Rises 0 a.line.waiters.items a.line.next → semaphore.Run a es b → Releases b (Ok (Some w)) c → Rises (w.ticket + 1) c.line.waiters.items c.line.next
+FirstComeFirstServed = (es : List semaphore.Event) (a b c : Semaphore) (w : Waiter) → Rises 0 a.line.waiters.items a.line.next → semaphore.Run a es b → Pays b (Some w) c → Rises (w.ticket + 1) c.line.waiters.items c.line.next
 
--- Tickets rise along both lines of a channel. So a receive serves the sender that has waited longest, and a send the
+-- Tickets rise along both lines of a channel. So the sender that has waited longest is served first, and so is the
 -- receiver that has waited longest.
 abbrev pub ServedInOrder : (T : Type 0) → Type 0
-ServedInOrder T = (es : List (channel.Event T)) (a b c : Channel T) (x : T) (w : Waiter) → channel.Run a es b
-    → (Rises 0 a.senders.waiters.items a.senders.next → Pops b x (Some w) c → Rises (w.ticket + 1) c.senders.waiters.items c.senders.next)
-    × (b.is_closed ≡ false → Rises 0 a.receivers.waiters.items a.receivers.next → Pushes b x (Some w) c → Rises (w.ticket + 1) c.receivers.waiters.items c.receivers.next)
+ServedInOrder T = (es : List (channel.Event T)) (a b c : Channel T) (w : Waiter) → channel.Run a es b
+    → (Rises 0 a.senders.waiters.items a.senders.next → PaysSender b (Some w) c → Rises (w.ticket + 1) c.senders.waiters.items c.senders.next)
+    × (Rises 0 a.receivers.waiters.items a.receivers.next → PaysReceiver b (Some w) c → Rises (w.ticket + 1) c.receivers.waiters.items c.receivers.next)
 
 -- The received messages, followed by the queue at the end, are the queue at the start, followed by the sent messages.
 abbrev pub InOrder : (T : Type 0) → Type 0

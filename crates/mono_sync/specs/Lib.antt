@@ -1,4 +1,7 @@
 pub mod Lines
+pub mod Owing
+pub mod Parts
+pub mod Listed
 pub mod Semaphores
 pub mod Mpsc
 pub mod Oneshot
@@ -7,7 +10,7 @@ pub mod Watches
 pub mod SemaphoreRuns
 pub mod MpscRuns
 pub mod Laws
-pub mod Wakes
+pub mod WaitLaws
 pub mod Permits
 pub mod Messages
 pub mod Runs

@@ -1,50 +1,53 @@
 -- The tasks that wait in a line, and the effect of its calls.
-use Rattle.std.specs.Prelude.{Bool, true, false, not, ◌==◌, ◌≡◌, ◌<◌, ◌≤◌, ◌+◌, ◌-◌, ◌⊎◌, if◌then◌else◌, ℕ, List, [], ◌∷◌, ◌++◌, filter, Option, Some, None, Result, Ok, Err}
+use Rattle.std.specs.Prelude.{Bool, true, false, not, ◌==◌, ◌&&◌, ◌||◌, nat_lt, ◌≡◌, ◌<◌, ◌≤◌, ◌+◌, ◌-◌, ◌⊎◌, if◌then◌else◌, MatchBool, ℕ, zero, suc, List, [], ◌∷◌, ◌++◌, filter, map, length, Option, Some, None, Result, Ok, Err}
 use Rattle.std.specs.List.{list_any, position}
 use Rattle.std.specs.declared.alloc.AllocError.{AllocError}
 use Rattle.mono_sync.specs.declared.lines.Waiter.{Waiter}
 use Rattle.mono_sync.specs.declared.lines.Line.{Line}
+use Rattle.mono_sync.specs.declared.lines.Coming.{Coming}
+use Rattle.mono_sync.specs.declared.lines.Coming.TheVariants.{Waits, Free, Full}
 
--- Whether the future with this ticket waits.
-abbrev pub stands : List Waiter → ℕ → Bool
-stands ws t = list_any (λ w. w.ticket == t) ws
+-- Whether this task waits with this ticket.
+abbrev pub waits_at : List Waiter → ℕ → ℕ → Bool
+waits_at ws k t = list_any (λ w. (w.ticket == k) && (w.task == t)) ws
 
--- The waiting tasks without the one with this ticket.
-abbrev pub without : List Waiter → ℕ → List Waiter
-without ws t = filter (λ w. not (w.ticket == t)) ws
+-- A place in a line is a ticket.
+abbrev pub lists_at : List Waiter → List ℕ → ℕ → Bool
+lists_at ws [] t = false
+lists_at ws (k ∷ []) t = waits_at ws k t
+lists_at ws (k ∷ l ∷ p) t = false
 
--- Whether the future that drew this ticket, if any, still waits.
-abbrev pub still_waits : Line → Option ℕ → Bool
-still_waits a None = false
-still_waits a (Some t) = stands a.waiters.items t
-
--- How many grants are not collected, once this future has collected its own.
-abbrev pub grants_left : Line → Option ℕ → ℕ
-grants_left a None = a.granted
-grants_left a (Some t) = if stands a.waiters.items t then a.granted else a.granted - 1
-
--- The waiting tasks once this future has left.
-abbrev pub left_by : List Waiter → Option ℕ → List Waiter
-left_by ws None = ws
-left_by ws (Some t) = without ws t
-
--- Whether a future of this task waits in the line.
+-- Whether this task waits in the line.
 abbrev pub has_task : Line → ℕ → Bool
 has_task a task = list_any (λ w. w.task == task) a.waiters.items
 
+-- The waiting tasks, in order.
+abbrev pub tasks_of : List Waiter → List ℕ
+tasks_of ws = map (λ w. w.task) ws
+
 -- The place of the future with this ticket.
 abbrev pub place_of : List Waiter → ℕ → Option ℕ
-place_of ws t = position (λ w. w.ticket == t) ws
+place_of ws k = position (λ w. w.ticket == k) ws
 
--- The waiting tasks, of which this one now waits in the place of the future with this ticket.
-abbrev pub renewed : List Waiter → ℕ → ℕ → List Waiter
-renewed [] t task = []
-renewed (w ∷ ws) t task = if w.ticket == t then record { ticket = t; task = task } ∷ ws else w ∷ renewed ws t task
+-- The task of the future with this ticket.
+abbrev pub holder_of : List Waiter → ℕ → Option ℕ
+holder_of [] k = None
+holder_of (w ∷ ws) k = if w.ticket == k then Some w.task else holder_of ws k
 
--- The future still waits, and this task waits in its place.
-abbrev pub Renews : Line → Option ℕ → ℕ → Line → Type 0
-Renews a None task b = ⊥
-Renews a (Some t) task b = (b.waiters.items ≡ renewed a.waiters.items t task) × (b.granted ≡ a.granted) × (b.next ≡ a.next)
+-- The waiting tasks, of which the one with this ticket is marked as one that has left.
+abbrev pub marked : List Waiter → ℕ → ℕ → List Waiter
+marked [] k t = []
+marked (w ∷ ws) k t = if w.ticket == k then record { ticket = k; task = t; has_left = true } ∷ ws else w ∷ marked ws k t
+
+-- The waiting tasks without this one at this ticket.
+abbrev pub without : List Waiter → ℕ → ℕ → List Waiter
+without ws k t = filter (λ w. not ((w.ticket == k) && (w.task == t))) ws
+
+-- The tasks that can be served with this many grants. A task whose future has left takes none.
+abbrev pub due : ℕ → List Waiter → List ℕ
+due n [] = []
+due zero (w ∷ ws) = []
+due (suc n) (w ∷ ws) = w.task ∷ due (if w.has_left then suc n else n) ws
 
 -- The line is the same.
 abbrev pub SameLine : Line → Line → Type 0
@@ -52,19 +55,84 @@ SameLine a b = (b.waiters.items ≡ a.waiters.items) × (b.granted ≡ a.granted
 
 -- A task is at the end of the line, with the next ticket, or the line stays the same if out of memory.
 abbrev pub Joins : Line → ℕ → Result ℕ AllocError → Line → Type 0
-Joins a task (Ok t) b = (t ≡ a.next) × (b.waiters.items ≡ a.waiters.items ++ record { ticket = a.next; task = task } ∷ []) × (b.granted ≡ a.granted) × (b.next ≡ a.next + 1)
+Joins a task (Ok t) b = (t ≡ a.next) × (b.waiters.items ≡ a.waiters.items ++ record { ticket = a.next; task = task; has_left = false } ∷ []) × (b.granted ≡ a.granted) × (b.next ≡ a.next + 1)
 Joins a task (Err e) b = SameLine a b
 
--- The first task leaves the line, if any.
+-- The future with this ticket is marked as one that has left, and its task is woken in its turn.
+abbrev pub Marks : Line → ℕ → ℕ → Line → Type 0
+Marks a k t b = (b.waiters.items ≡ marked a.waiters.items k t) × (b.granted ≡ a.granted) × (b.next ≡ a.next)
+
+-- A future that does not wait has collected its grant, if there is one.
+abbrev pub Collects : Line → Line → Type 0
+Collects a b = (b.waiters.items ≡ a.waiters.items) × (b.granted ≡ a.granted - 1) × (b.next ≡ a.next)
+
+-- There is room for a future if `room` is more than what others have.
+abbrev pub Fits : ℕ → ℕ → Coming → Type 0
+Fits taken room Waits = ⊥
+Fits taken room Free = taken < room
+Fits taken room Full = room ≤ taken
+
+-- A future that was not served has room after all that wait and all that were served.
+abbrev pub HasRoom : Line → ℕ → Coming → Type 0
+HasRoom a room r = Fits (a.granted + length a.waiters.items) room r
+
+-- A future asks by the task that waits with its ticket, if any.
+abbrev pub ComesOf : Option ℕ → Line → ℕ → ℕ → ℕ → Coming → Line → Type 0
+ComesOf None a k me room r b = Fits b.granted room r × Collects a b
+ComesOf (Some t) a k me room r b = MatchBool (t == me) ((r ≡ Waits) × (b ≡ a)) (HasRoom b room r × Marks a k t b)
+
+-- A future of this task asks. It still waits, or was served and collects its grant, or does not wait.
+abbrev pub Comes : Line → Option ℕ → ℕ → ℕ → Coming → Line → Type 0
+Comes a None me room r b = HasRoom b room r × (b ≡ a)
+Comes a (Some k) me room r b = ComesOf (holder_of a.waiters.items k) a k me room r b
+
+abbrev pub LeavesOf : Option ℕ → Line → ℕ → ℕ → Line → Type 0
+LeavesOf None a k me b = Collects a b
+LeavesOf (Some t) a k me b = MatchBool (t == me) ((b.waiters.items ≡ without a.waiters.items k me) × (b.granted ≡ a.granted) × (b.next ≡ a.next)) (Marks a k t b)
+
+-- A future leaves in a turn of this task. If another task waits with its ticket, that one is woken in its turn.
+abbrev pub Leaves : Line → Option ℕ → ℕ → Line → Type 0
+Leaves a None me b = b ≡ a
+Leaves a (Some k) me b = LeavesOf (holder_of a.waiters.items k) a k me b
+
+-- The first task leaves the line, if any, and no grant is reserved for it.
 abbrev pub Pops : Line → Option Waiter → Line → Type 0
+Pops a None b = (a.waiters.items ≡ []) × (b ≡ a)
 Pops a (Some w) b = (a.waiters.items ≡ w ∷ b.waiters.items) × (b.granted ≡ a.granted) × (b.next ≡ a.next)
-Pops a None b = (a.waiters.items ≡ []) × (b.waiters.items ≡ []) × (b.granted ≡ a.granted) × (b.next ≡ a.next)
 
--- The first waiting task is served, if fewer than `room` grants are not collected.
-abbrev pub Serves : List Waiter → ℕ → ℕ → Option Waiter → Line → Type 0
-Serves ws granted room (Some w) b = (granted < room) × (ws ≡ w ∷ b.waiters.items) × (b.granted ≡ granted + 1)
-Serves ws granted room None b = ((room ≤ granted) ⊎ (ws ≡ [])) × (b.waiters.items ≡ ws) × (b.granted ≡ granted)
+-- The first task leaves the line if fewer than `room` grants are not collected. A grant is reserved for it, unless its
+-- future has left.
+abbrev pub Serves : Line → ℕ → Option Waiter → Line → Type 0
+Serves a room None b = ((room ≤ a.granted) ⊎ (a.waiters.items ≡ [])) × (b ≡ a)
+Serves a room (Some w) b = (a.granted < room) × (a.waiters.items ≡ w ∷ b.waiters.items) × (b.granted ≡ (if w.has_left then a.granted else a.granted + 1)) × (b.next ≡ a.next)
 
--- A future that does not wait has collected its grant, if it was served.
-abbrev pub Comes : Line → Option ℕ → Line → Type 0
-Comes a ticket b = (b.waiters.items ≡ a.waiters.items) × (b.granted ≡ grants_left a ticket) × (b.next ≡ a.next)
+-- The tasks that are to be woken: those for which there is room, and all once the value was closed.
+abbrev pub owed_of : Bool → ℕ → Line → List ℕ
+owed_of is_closed room a = if is_closed then tasks_of a.waiters.items else due (room - a.granted) a.waiters.items
+
+-- The first of them leaves the line.
+abbrev pub Takes : Bool → ℕ → Line → Option Waiter → Line → Type 0
+Takes is_closed room a first b = MatchBool is_closed (Pops a first b) (Serves a room first b)
+
+-- Whether the first task drew its ticket before this one was the next.
+abbrev pub starts_below : ℕ → List Waiter → Bool
+starts_below low [] = false
+starts_below low (w ∷ ws) = nat_lt w.ticket low
+
+-- The first tasks, as long as they drew their tickets before this one was the next.
+abbrev pub below : ℕ → List Waiter → List ℕ
+below low [] = []
+below low (w ∷ ws) = if nat_lt w.ticket low then w.task ∷ below low ws else []
+
+-- The tasks that are to be woken: those that drew their tickets before this one was the next, and all once the value was
+-- closed.
+abbrev pub owed_below : Bool → ℕ → Line → List ℕ
+owed_below is_closed low a = if is_closed then tasks_of a.waiters.items else below low a.waiters.items
+
+-- The first of them leaves the line.
+abbrev pub TakesBelow : Bool → ℕ → Line → Option Waiter → Line → Type 0
+TakesBelow is_closed low a first b = MatchBool (is_closed || starts_below low a.waiters.items) (Pops a first b) ((first ≡ None) × (b ≡ a))
+
+-- Whether a future has the place of the only one that may wait: it waits, or was served.
+abbrev pub is_held : Line → Bool
+is_held a = nat_lt 0 a.granted || list_any (λ w. not w.has_left) a.waiters.items

@@ -1,5 +1,5 @@
 -- A sequence of calls of a channel.
-use Rattle.std.specs.Prelude.{⊤, true, false, ◌≡◌, ◌+◌, ℕ, List, [], ◌∷◌, ◌++◌, Option, Some, None, Result, Ok, Err, refl}
+use Rattle.std.specs.Prelude.{⊤, ◌≡◌, ℕ, List, [], ◌∷◌, ◌++◌, Option, Result, Ok, Err, refl}
 use Rattle.std.proofs.Common.{subst}
 use Rattle.mono_sync.specs.declared.lines.Waiter.{Waiter}
 use Rattle.mono_sync.specs.declared.mpsc.Channel.{Channel}
@@ -9,17 +9,19 @@ use Rattle.mono_sync.specs.declared.mpsc.Sending.{Sending}
 use Rattle.mono_sync.specs.declared.mpsc.Sending.TheVariants as sending
 use Rattle.mono_sync.specs.declared.mpsc.Receiving.{Receiving}
 use Rattle.mono_sync.specs.declared.mpsc.Receiving.TheVariants as receiving
-use Rattle.mono_sync.specs.Mpsc.{TriesToSend, TriesToReceive, Sends, Receives, GivesUpSend, GivesUpReceive, Closes}
+use Rattle.mono_sync.specs.Mpsc.{TriesToSend, TriesToReceive, Sends, Receives, GivesUpSend, GivesUpReceive, Closes, PaysSender, PaysReceiver}
 
--- A call with its answer.
+-- A call with its answer, or the wake of the first owed task of a line.
 pub data Event (T : Type 0) : Type 0 where
-  tried_to_send : (message : T) → (answer : Result (Option Waiter) (TrySendError T)) → Event T
-  tried_to_receive : (answer : Result (T × Option Waiter) TryRecvError) → Event T
+  tried_to_send : (message : T) → (answer : Result ⊤ (TrySendError T)) → Event T
+  tried_to_receive : (answer : Result T TryRecvError) → Event T
   asked_to_send : (ticket : Option ℕ) → (message : T) → (task : ℕ) → (answer : Sending T) → Event T
   asked_to_receive : (ticket : Option ℕ) → (task : ℕ) → (answer : Receiving T) → Event T
-  gave_up_send : (ticket : Option ℕ) → (first : Option Waiter) → Event T
-  gave_up_receive : (ticket : Option ℕ) → (first : Option Waiter) → Event T
-  closed : (senders : List Waiter) → (receivers : List Waiter) → Event T
+  gave_up_send : (ticket : Option ℕ) → (task : ℕ) → Event T
+  gave_up_receive : (ticket : Option ℕ) → (task : ℕ) → Event T
+  closed : Event T
+  served_sender : (first : Option Waiter) → Event T
+  served_receiver : (first : Option Waiter) → Event T
 
 module _ {T : Type 0} where
   abbrev pub Step : Channel T → Event T → Channel T → Type 0
@@ -27,9 +29,11 @@ module _ {T : Type 0} where
   Step a (tried_to_receive r) b = TriesToReceive a r b
   Step a (asked_to_send ticket x task r) b = Sends a ticket x task r b
   Step a (asked_to_receive ticket task r) b = Receives a ticket task r b
-  Step a (gave_up_send ticket first) b = GivesUpSend a ticket first b
-  Step a (gave_up_receive ticket first) b = GivesUpReceive a ticket first b
-  Step a (closed senders receivers) b = Closes a senders receivers b
+  Step a (gave_up_send ticket task) b = GivesUpSend a ticket task b
+  Step a (gave_up_receive ticket task) b = GivesUpReceive a ticket task b
+  Step a closed b = Closes a b
+  Step a (served_sender first) b = PaysSender a first b
+  Step a (served_receiver first) b = PaysReceiver a first b
 
   abbrev pub Run : Channel T → List (Event T) → Channel T → Type 0
   Run a [] b = b ≡ a
@@ -37,18 +41,20 @@ module _ {T : Type 0} where
 
   -- The message that the call sent, if any.
   abbrev pub sent_by : Event T → List T
-  sent_by (tried_to_send x (Ok first)) = x ∷ []
+  sent_by (tried_to_send x (Ok done)) = x ∷ []
   sent_by (tried_to_send x (Err e)) = []
   sent_by (tried_to_receive r) = []
-  sent_by (asked_to_send ticket x task (sending.Sent first)) = x ∷ []
+  sent_by (asked_to_send ticket x task sending.Sent) = x ∷ []
   sent_by (asked_to_send ticket x task (sending.Closed y)) = []
-  sent_by (asked_to_send ticket x task (sending.Memory y first)) = []
+  sent_by (asked_to_send ticket x task (sending.Memory y)) = []
   sent_by (asked_to_send ticket x task (sending.Joined t y)) = []
   sent_by (asked_to_send ticket x task (sending.Waits y)) = []
   sent_by (asked_to_receive ticket task r) = []
-  sent_by (gave_up_send ticket first) = []
-  sent_by (gave_up_receive ticket first) = []
-  sent_by (closed senders receivers) = []
+  sent_by (gave_up_send ticket task) = []
+  sent_by (gave_up_receive ticket task) = []
+  sent_by closed = []
+  sent_by (served_sender first) = []
+  sent_by (served_receiver first) = []
 
   abbrev pub sent : List (Event T) → List T
   sent [] = []
@@ -57,17 +63,19 @@ module _ {T : Type 0} where
   -- The message that the call received, if any.
   abbrev pub received_by : Event T → List T
   received_by (tried_to_send x r) = []
-  received_by (tried_to_receive (Ok (x, first))) = x ∷ []
+  received_by (tried_to_receive (Ok x)) = x ∷ []
   received_by (tried_to_receive (Err e)) = []
   received_by (asked_to_send ticket x task r) = []
-  received_by (asked_to_receive ticket task (receiving.Received x first)) = x ∷ []
+  received_by (asked_to_receive ticket task (receiving.Received x)) = x ∷ []
   received_by (asked_to_receive ticket task receiving.Closed) = []
   received_by (asked_to_receive ticket task receiving.Memory) = []
   received_by (asked_to_receive ticket task (receiving.Joined t)) = []
   received_by (asked_to_receive ticket task receiving.Waits) = []
-  received_by (gave_up_send ticket first) = []
-  received_by (gave_up_receive ticket first) = []
-  received_by (closed senders receivers) = []
+  received_by (gave_up_send ticket task) = []
+  received_by (gave_up_receive ticket task) = []
+  received_by closed = []
+  received_by (served_sender first) = []
+  received_by (served_receiver first) = []
 
   abbrev pub received : List (Event T) → List T
   received [] = []

@@ -1,32 +1,75 @@
 -- A notice, and the effect of its calls.
-use Rattle.std.specs.Prelude.{Bool, true, false, ◌≡◌, ◌<◌, ◌≤◌, ◌+◌, ℕ, List, [], ◌∷◌, ◌++◌, Option, Some, None}
+use Rattle.std.specs.Prelude.{Bool, ◌==◌, ◌||◌, nat_lt, ◌≡◌, ◌<◌, ◌≤◌, ◌+◌, ◌-◌, ◌⊎◌, if◌then◌else◌, MatchBool, ℕ, zero, suc, List, [], ◌∷◌, length, Option, Some, None, Ok}
 use Rattle.mono_sync.specs.declared.lines.Waiter.{Waiter}
+use Rattle.mono_sync.specs.declared.lines.Line.{Line}
+use Rattle.mono_sync.specs.declared.lines.Coming.TheVariants.{Waits, Free, Full}
 use Rattle.mono_sync.specs.declared.notices.Notify.{Notify}
 use Rattle.mono_sync.specs.declared.notices.Notifying.{Notifying}
 use Rattle.mono_sync.specs.declared.notices.Notifying.TheVariants as notifying
-use Rattle.mono_sync.specs.Lines.{stands, without, Renews}
+use Rattle.mono_sync.specs.Lines.{Comes, Joins, Leaves, Pops, SameLine, holder_of, lists_at, starts_below, tasks_of}
 
--- The first waiting task is served, or the notice is kept for the next future that asks.
-abbrev pub NotifiesOne : Notify → Option Waiter → Notify → Type 0
-NotifiesOne a (Some w) b = (a.line.waiters.items ≡ w ∷ b.line.waiters.items) × (b.is_notified ≡ a.is_notified) × (b.cleared ≡ a.cleared) × (b.line.next ≡ a.line.next)
-NotifiesOne a None b = (a.line.waiters.items ≡ []) × (b.line.waiters.items ≡ []) × (b.is_notified ≡ true) × (b.cleared ≡ a.cleared) × (b.line.next ≡ a.line.next)
+-- The tasks that are to be woken: those that waited at the last notice to all, and one for each notice to one.
+abbrev pub on_notice : ℕ → ℕ → List Waiter → List ℕ
+on_notice low n [] = []
+on_notice low zero (w ∷ ws) = if nat_lt w.ticket low then w.task ∷ on_notice low zero ws else []
+on_notice low (suc n) (w ∷ ws) = w.task ∷ on_notice low (if nat_lt w.ticket low || w.has_left then suc n else n) ws
 
--- All waiting tasks are served, and no other.
-abbrev pub NotifiesAll : Notify → List Waiter → Notify → Type 0
-NotifiesAll a woken b = (woken ≡ a.line.waiters.items) × (b.line.waiters.items ≡ []) × (b.is_notified ≡ a.is_notified) × (b.cleared ≡ a.line.next) × (b.line.next ≡ a.line.next)
+abbrev pub owed_by : Notify → List ℕ
+owed_by a = on_notice a.cleared a.pending a.line.waiters.items
 
--- A future asks. It waits, for this task from now on, or was notified, or takes the kept notice, or waits from now on.
+-- A place is a ticket.
+abbrev pub listed_by : Notify → List ℕ → ℕ → Bool
+listed_by a = lists_at a.line.waiters.items
+
+abbrev pub waiting_in : Notify → List ℕ
+waiting_in a = tasks_of a.line.waiters.items
+
+-- All but the line stays.
+abbrev pub Kept : Notify → Notify → Type 0
+Kept a b = (b.pending ≡ a.pending) × (b.cleared ≡ a.cleared)
+
+-- How many notices there may be: one for each task that waits, or one that is kept.
+abbrev pub most : Notify → ℕ
+most a = if length a.line.waiters.items == 0 then 1 else length a.line.waiters.items
+
+-- There is one notice more, for the first task that waits and has none. If no task waits, it is kept for the next future
+-- that asks.
+abbrev pub NotifiesOne : Notify → Notify → Type 0
+NotifiesOne a b = MatchBool (nat_lt a.pending (most a)) (b.pending ≡ a.pending + 1) (b.pending ≡ a.pending) × (b.line ≡ a.line) × (b.cleared ≡ a.cleared)
+
+-- All tasks that wait are notified, and no other. A kept notice stays.
+abbrev pub NotifiesAll : Notify → Notify → Type 0
+NotifiesAll a b = MatchBool (length a.line.waiters.items == 0) (b.pending ≡ a.pending) (b.pending ≡ 0) × (b.line ≡ a.line) × (b.cleared ≡ a.line.next)
+
+-- No notice is kept for a future that asks.
+abbrev pub KeepsNone : Notify → Type 0
+KeepsNone a = (a.pending ≡ 0) ⊎ (1 ≤ a.line.granted + length a.line.waiters.items)
+
+-- A future of this task asks. It waits, or was notified, or takes the kept notice, or waits from now on.
 abbrev pub Awaits : Notify → Option ℕ → ℕ → Notifying → Notify → Type 0
-Awaits a (Some t) task notifying.Waits b = (stands a.line.waiters.items t ≡ true) × Renews a.line (Some t) task b.line × (b.is_notified ≡ a.is_notified) × (b.cleared ≡ a.cleared)
-Awaits a (Some t) task notifying.Notified b = (stands a.line.waiters.items t ≡ false) × (b ≡ a)
-Awaits a (Some t) task notifying.Memory b = ⊥
-Awaits a (Some t) task (notifying.Joined u) b = ⊥
-Awaits a None task notifying.Waits b = ⊥
-Awaits a None task notifying.Notified b = (a.is_notified ≡ true) × (b.is_notified ≡ false) × (b.line ≡ a.line) × (b.cleared ≡ a.cleared)
-Awaits a None task notifying.Memory b = (a.is_notified ≡ false) × (b.is_notified ≡ false) × (b.line.waiters.items ≡ a.line.waiters.items) × (b.line.next ≡ a.line.next) × (b.cleared ≡ a.cleared)
-Awaits a None task (notifying.Joined u) b = (a.is_notified ≡ false) × (b.is_notified ≡ false) × (u ≡ a.line.next) × (b.line.waiters.items ≡ a.line.waiters.items ++ record { ticket = u; task = task } ∷ []) × (b.line.next ≡ a.line.next + 1) × (b.cleared ≡ a.cleared)
+Awaits a (Some k) me notifying.Waits b = Comes a.line (Some k) me 1 Waits b.line × Kept a b
+Awaits a (Some k) me notifying.Notified b = (Comes a.line (Some k) me 1 Free b.line ⊎ (Comes a.line (Some k) me 1 Full b.line × (k < a.cleared))) × Kept a b
+Awaits a (Some k) me notifying.Memory b = ((l : Line) × (Comes a.line (Some k) me 1 Full l × (a.cleared ≤ k) × SameLine l b.line)) × Kept a b
+Awaits a (Some k) me (notifying.Joined u) b = ((l : Line) × (Comes a.line (Some k) me 1 Full l × (a.cleared ≤ k) × Joins l me (Ok u) b.line)) × Kept a b
+Awaits a None me notifying.Waits b = ⊥
+Awaits a None me notifying.Notified b = (0 < a.pending) × (a.line.granted + length a.line.waiters.items ≡ 0) × (b.pending ≡ 0) × (b.line ≡ a.line) × (b.cleared ≡ a.cleared)
+Awaits a None me notifying.Memory b = KeepsNone a × SameLine a.line b.line × Kept a b
+Awaits a None me (notifying.Joined u) b = KeepsNone a × Joins a.line me (Ok u) b.line × Kept a b
 
--- A future leaves the line. A future that was notified alone passes its notice on.
-abbrev pub GivesUp : Notify → Option ℕ → Option Waiter → Notify → Type 0
-GivesUp a None first b = (first ≡ None) × (b ≡ a)
-GivesUp a (Some t) first b = (stands a.line.waiters.items t ≡ true → (first ≡ None) × (b.line.waiters.items ≡ without a.line.waiters.items t) × (b.is_notified ≡ a.is_notified) × (b.cleared ≡ a.cleared) × (b.line.next ≡ a.line.next)) × (stands a.line.waiters.items t ≡ false → t < a.cleared → (first ≡ None) × (b ≡ a)) × (stands a.line.waiters.items t ≡ false → a.cleared ≤ t → NotifiesOne a first b)
+abbrev pub GivesUpOf : Option ℕ → Notify → ℕ → ℕ → Notify → Type 0
+GivesUpOf (Some t) a k me b = Leaves a.line (Some k) me b.line × Kept a b
+GivesUpOf None a k me b = MatchBool (nat_lt k a.cleared) (b ≡ a) (NotifiesOne a b)
+
+-- A future leaves the line, in a turn of this task. A future that was notified alone passes its notice on.
+abbrev pub GivesUp : Notify → Option ℕ → ℕ → Notify → Type 0
+GivesUp a None me b = b ≡ a
+GivesUp a (Some k) me b = GivesUpOf (holder_of a.line.waiters.items k) a k me b
+
+-- The first task leaves the line for a notice to one. A task whose future has left takes no notice.
+abbrev pub PaysOne : Notify → Option Waiter → Notify → Type 0
+PaysOne a None b = ((a.pending ≡ 0) ⊎ (a.line.waiters.items ≡ [])) × (b.line ≡ a.line) × (b.pending ≡ a.pending)
+PaysOne a (Some w) b = (0 < a.pending) × Pops a.line (Some w) b.line × (b.pending ≡ (if w.has_left then a.pending else a.pending - 1))
+
+-- The first waiting task is woken, if it waited at the last notice to all, or there is a notice to one.
+abbrev pub Pays : Notify → Option Waiter → Notify → Type 0
+Pays a first b = MatchBool (starts_below a.cleared a.line.waiters.items) (Pops a.line first b.line × (b.pending ≡ a.pending)) (PaysOne a first b) × (b.cleared ≡ a.cleared)

@@ -1,5 +1,5 @@
 -- A sequence of calls of a semaphore.
-use Rattle.std.specs.Prelude.{⊤, true, false, ◌≡◌, ◌<◌, ◌≤◌, ◌+◌, ℕ, List, [], ◌∷◌, ◌++◌, Option, Some, None, Result, Ok, Err, refl}
+use Rattle.std.specs.Prelude.{⊤, ◌≡◌, ◌+◌, ℕ, List, [], ◌∷◌, ◌++◌, Option, Result, Ok, Err, refl}
 use Rattle.std.proofs.Common.{subst}
 use Rattle.mono_sync.specs.declared.lines.Waiter.{Waiter}
 use Rattle.mono_sync.specs.declared.semaphores.Semaphore.{Semaphore}
@@ -7,22 +7,24 @@ use Rattle.mono_sync.specs.declared.semaphores.TryAcquireError.{TryAcquireError}
 use Rattle.mono_sync.specs.declared.semaphores.TooManyPermits.{TooManyPermits}
 use Rattle.mono_sync.specs.declared.semaphores.Acquiring.{Acquiring}
 use Rattle.mono_sync.specs.declared.semaphores.Acquiring.TheVariants as acquiring
-use Rattle.mono_sync.specs.Semaphores.{TriesToAcquire, Acquires, Releases, GivesUp, Closes}
+use Rattle.mono_sync.specs.Semaphores.{TriesToAcquire, Acquires, Releases, GivesUp, Closes, Pays}
 
--- A call with its answer.
+-- A call with its answer, or the wake of the first owed task.
 pub data Event : Type 0 where
   tried : (answer : Result ⊤ TryAcquireError) → Event
   asked : (ticket : Option ℕ) → (task : ℕ) → (answer : Acquiring) → Event
-  released : (answer : Result (Option Waiter) TooManyPermits) → Event
-  gave_up : (ticket : Option ℕ) → (first : Option Waiter) → Event
-  closed : (woken : List Waiter) → Event
+  released : (answer : Result ⊤ TooManyPermits) → Event
+  gave_up : (ticket : Option ℕ) → (task : ℕ) → Event
+  closed : Event
+  served : (first : Option Waiter) → Event
 
 abbrev pub Step : Semaphore → Event → Semaphore → Type 0
 Step a (tried r) b = TriesToAcquire a r b
 Step a (asked ticket task r) b = Acquires a ticket task r b
 Step a (released r) b = Releases a r b
-Step a (gave_up ticket first) b = GivesUp a ticket first b
-Step a (closed woken) b = Closes a woken b
+Step a (gave_up ticket task) b = GivesUp a ticket task b
+Step a closed b = Closes a b
+Step a (served first) b = Pays a first b
 
 abbrev pub Run : Semaphore → List Event → Semaphore → Type 0
 Run a [] b = b ≡ a
@@ -38,8 +40,9 @@ given_by (asked ticket task acquiring.Memory) = 0
 given_by (asked ticket task (acquiring.Joined t)) = 0
 given_by (asked ticket task acquiring.Waits) = 0
 given_by (released r) = 0
-given_by (gave_up ticket first) = 0
-given_by (closed woken) = 0
+given_by (gave_up ticket task) = 0
+given_by closed = 0
+given_by (served first) = 0
 
 abbrev pub given : List Event → ℕ
 given [] = 0
@@ -49,10 +52,11 @@ given (e ∷ es) = given_by e + given es
 abbrev pub put_back_by : Event → ℕ
 put_back_by (tried r) = 0
 put_back_by (asked ticket task r) = 0
-put_back_by (released (Ok first)) = 1
+put_back_by (released (Ok done)) = 1
 put_back_by (released (Err e)) = 0
-put_back_by (gave_up ticket first) = 0
-put_back_by (closed woken) = 0
+put_back_by (gave_up ticket task) = 0
+put_back_by closed = 0
+put_back_by (served first) = 0
 
 abbrev pub put_back : List Event → ℕ
 put_back [] = 0

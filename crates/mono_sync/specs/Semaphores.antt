@@ -1,7 +1,8 @@
 -- A semaphore, and the effect of its calls.
-use Rattle.std.specs.Prelude.{⊤, Bool, true, false, ◌≡◌, ◌<◌, ◌≤◌, ◌+◌, ◌-◌, ◌^◌, ℕ, List, [], ◌∷◌, ◌++◌, Option, Some, None, Result, Ok, Err, refl}
-use Rattle.std.specs.declared.alloc.AllocError.{AllocError}
+use Rattle.std.specs.Prelude.{⊤, Bool, true, false, ◌≡◌, ◌<◌, ◌≤◌, ◌+◌, ℕ, List, length, Option, Result, Ok, Err}
 use Rattle.mono_sync.specs.declared.lines.Waiter.{Waiter}
+use Rattle.mono_sync.specs.declared.lines.Line.{Line}
+use Rattle.mono_sync.specs.declared.lines.Coming.TheVariants.{Waits, Free, Full}
 use Rattle.mono_sync.specs.declared.semaphores.Semaphore.{Semaphore}
 use Rattle.mono_sync.specs.declared.semaphores.TryAcquireError.{TryAcquireError}
 use Rattle.mono_sync.specs.declared.semaphores.TryAcquireError.TheVariants.{NoPermits, Closed}
@@ -9,31 +10,47 @@ use Rattle.mono_sync.specs.declared.semaphores.TooManyPermits.{TooManyPermits}
 use Rattle.mono_sync.specs.declared.semaphores.Acquiring.{Acquiring}
 use Rattle.mono_sync.specs.declared.semaphores.Acquiring.TheVariants as acquiring
 use Rattle.mono_sync.specs.declared.semaphores.TheConstants.{MAX_PERMITS}
-use Rattle.mono_sync.specs.Lines.{still_waits, grants_left, left_by, Renews, Serves, Comes}
+use Rattle.mono_sync.specs.Lines.{Comes, Joins, Leaves, SameLine, Takes, lists_at, owed_of, tasks_of}
 
--- There is one permit fewer, if one is neither taken nor reserved.
+-- The tasks that are to be woken: those for which a permit is free, and all once the semaphore was closed.
+abbrev pub owed_by : Semaphore → List ℕ
+owed_by a = owed_of a.is_closed a.available a.line
+
+-- A place is a ticket.
+abbrev pub listed_by : Semaphore → List ℕ → ℕ → Bool
+listed_by a = lists_at a.line.waiters.items
+
+abbrev pub waiting_in : Semaphore → List ℕ
+waiting_in a = tasks_of a.line.waiters.items
+
+-- There is one permit fewer, if one is neither taken, reserved nor owed to a task that waits.
 abbrev pub TriesToAcquire : Semaphore → Result ⊤ TryAcquireError → Semaphore → Type 0
-TriesToAcquire a (Ok done) b = (a.is_closed ≡ false) × (a.line.granted < a.available) × (b.available + 1 ≡ a.available) × (b.line ≡ a.line) × (b.is_closed ≡ false)
+TriesToAcquire a (Ok done) b = (a.is_closed ≡ false) × (a.line.granted + length a.line.waiters.items < a.available) × (b.available + 1 ≡ a.available) × (b.line ≡ a.line) × (b.is_closed ≡ false)
 TriesToAcquire a (Err Closed) b = (a.is_closed ≡ true) × (b ≡ a)
-TriesToAcquire a (Err NoPermits) b = (a.is_closed ≡ false) × (a.available ≤ a.line.granted) × (b ≡ a)
+TriesToAcquire a (Err NoPermits) b = (a.is_closed ≡ false) × (a.available ≤ a.line.granted + length a.line.waiters.items) × (b ≡ a)
 
--- A future asks. It still waits, for this task from now on, or collects its permit, or takes a free one, or waits from now on.
+-- A future of this task asks. It still waits, or collects its permit, or takes one that is free and owed to no task, or
+-- waits from now on. It leaves the line if the semaphore was closed.
 abbrev pub Acquires : Semaphore → Option ℕ → ℕ → Acquiring → Semaphore → Type 0
-Acquires a ticket task acquiring.Waits b = (still_waits a.line ticket ≡ true) × (b.available ≡ a.available) × Renews a.line ticket task b.line × (b.is_closed ≡ a.is_closed)
-Acquires a ticket task acquiring.Closed b = (still_waits a.line ticket ≡ false) × (a.is_closed ≡ true) × (b.available ≡ a.available) × Comes a.line ticket b.line × (b.is_closed ≡ true)
-Acquires a ticket task acquiring.Acquired b = (still_waits a.line ticket ≡ false) × (a.is_closed ≡ false) × (grants_left a.line ticket < a.available) × (b.available + 1 ≡ a.available) × Comes a.line ticket b.line × (b.is_closed ≡ false)
-Acquires a ticket task (acquiring.Joined t) b = (still_waits a.line ticket ≡ false) × (a.is_closed ≡ false) × (a.available ≤ grants_left a.line ticket) × (b.available ≡ a.available) × (t ≡ a.line.next) × (b.line.waiters.items ≡ a.line.waiters.items ++ record { ticket = t; task = task } ∷ []) × (b.line.granted ≡ grants_left a.line ticket) × (b.line.next ≡ a.line.next + 1) × (b.is_closed ≡ false)
-Acquires a ticket task acquiring.Memory b = (still_waits a.line ticket ≡ false) × (a.is_closed ≡ false) × (a.available ≤ grants_left a.line ticket) × (b.available ≡ a.available) × Comes a.line ticket b.line × (b.is_closed ≡ false)
+Acquires a ticket me acquiring.Waits b = (a.is_closed ≡ false) × Comes a.line ticket me a.available Waits b.line × (b.available ≡ a.available) × (b.is_closed ≡ false)
+Acquires a ticket me acquiring.Closed b = (a.is_closed ≡ true) × Leaves a.line ticket me b.line × (b.available ≡ a.available) × (b.is_closed ≡ true)
+Acquires a ticket me acquiring.Acquired b = (a.is_closed ≡ false) × Comes a.line ticket me a.available Free b.line × (b.available + 1 ≡ a.available) × (b.is_closed ≡ false)
+Acquires a ticket me (acquiring.Joined t) b = (a.is_closed ≡ false) × ((l : Line) × (Comes a.line ticket me a.available Full l × Joins l me (Ok t) b.line)) × (b.available ≡ a.available) × (b.is_closed ≡ false)
+Acquires a ticket me acquiring.Memory b = (a.is_closed ≡ false) × ((l : Line) × (Comes a.line ticket me a.available Full l × SameLine l b.line)) × (b.available ≡ a.available) × (b.is_closed ≡ false)
 
--- There is one more permit, which is reserved for the first waiting task.
-abbrev pub Releases : Semaphore → Result (Option Waiter) TooManyPermits → Semaphore → Type 0
-Releases a (Ok first) b = (a.available < MAX_PERMITS) × (b.available ≡ a.available + 1) × Serves a.line.waiters.items a.line.granted (a.available + 1) first b.line × (b.line.next ≡ a.line.next) × (b.is_closed ≡ a.is_closed)
+-- There is one permit more.
+abbrev pub Releases : Semaphore → Result ⊤ TooManyPermits → Semaphore → Type 0
+Releases a (Ok done) b = (a.available < MAX_PERMITS) × (b.available ≡ a.available + 1) × (b.line ≡ a.line) × (b.is_closed ≡ a.is_closed)
 Releases a (Err e) b = (MAX_PERMITS ≤ a.available) × (b ≡ a)
 
--- A future leaves the line. Its reserved permit, if any, goes to the first waiting task.
-abbrev pub GivesUp : Semaphore → Option ℕ → Option Waiter → Semaphore → Type 0
-GivesUp a ticket first b = (b.available ≡ a.available) × Serves (left_by a.line.waiters.items ticket) (grants_left a.line ticket) a.available first b.line × (b.line.next ≡ a.line.next) × (b.is_closed ≡ a.is_closed)
+-- A future leaves the line in a turn of this task.
+abbrev pub GivesUp : Semaphore → Option ℕ → ℕ → Semaphore → Type 0
+GivesUp a ticket me b = (b.available ≡ a.available) × Leaves a.line ticket me b.line × (b.is_closed ≡ a.is_closed)
 
--- The semaphore gives no further permit, and all waiting tasks leave the line.
-abbrev pub Closes : Semaphore → List Waiter → Semaphore → Type 0
-Closes a woken b = (woken ≡ a.line.waiters.items) × (b.line.waiters.items ≡ []) × (b.line.granted ≡ a.line.granted) × (b.line.next ≡ a.line.next) × (b.available ≡ a.available) × (b.is_closed ≡ true)
+-- The semaphore gives no further permit.
+abbrev pub Closes : Semaphore → Semaphore → Type 0
+Closes a b = (b.available ≡ a.available) × (b.line ≡ a.line) × (b.is_closed ≡ true)
+
+-- The first waiting task is woken, if a permit is free for it or the semaphore was closed.
+abbrev pub Pays : Semaphore → Option Waiter → Semaphore → Type 0
+Pays a first b = Takes a.is_closed a.available a.line first b.line × (b.available ≡ a.available) × (b.is_closed ≡ a.is_closed)

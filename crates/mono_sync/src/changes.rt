@@ -1,18 +1,16 @@
 // The calls of a task on a watched value: it waits for another value, and replaces it.
-ghost use Rattle.std.specs.Prelude.{◌≡◌, true, false};
+ghost use Rattle.std.specs.Prelude.{◌≡◌, true, false, ℕ};
 ghost use Rattle.std.specs.declared.option.Option.TheVariants.{None};
 ghost use Rattle.mono_model.specs.Poll.{OnReady};
 ghost use Rattle.mono_sync.specs.Watches.{Sends, Changes, GivesUp, Closes};
-ghost use Rattle.mono_sync.specs.Changes.{ChangedPolls, SendWakes, CloseWakes};
+ghost use Rattle.mono_sync.specs.Changes.{ChangedPolls, ChangedCancels};
+ghost use Rattle.mono_task.specs.Owed.{Keeps};
 
-use crate::lines::Waiter;
 use crate::parts::Holds;
-use crate::wakes::wake_all;
-use crate::watch::{Changing, Replaced, Watch};
+use crate::watch::{Changing, Watch};
 use mono_model::{Host, Poll};
 use mono_task::{SharedContext, TaskFuture};
 use std::alloc::Global;
-use std::collections::VecDeque;
 use std::marker::PhantomData;
 
 /// A future that waits until the watched value of the tasks has another version than the one it has seen.
@@ -56,40 +54,40 @@ fn ask_part<T: Drop, W: Holds<Watch<T>>>(
     whole: &mut W,
     seen: u64,
     ticket: Option<u64>,
-    task: u64,
+    me: u64,
 ) -> Changing
-    ensures answer { Changes (W.part whole.old) seen ticket task result (W.part whole.new) }
+    ensures answer { Changes (W.part whole.old) seen ticket me result (W.part whole.new) }
     ensures leads { W.leads whole.old whole.new }
+    ensures keeps { Keeps W.lists me whole.old whole.new }
 {
-    whole.part_mut().changed(seen, ticket, task)
+    whole.part_mut().changed(seen, ticket, me)
 }
 
 // Takes a future out of the line.
-fn leave_part<T: Drop, W: Holds<Watch<T>>>(whole: &mut W, ticket: Option<u64>)
-    ensures answer { GivesUp (W.part whole.old) ticket (W.part whole.new) }
+fn leave_part<T: Drop, W: Holds<Watch<T>>>(whole: &mut W, ticket: Option<u64>, me: u64)
+    ensures answer { GivesUp (W.part whole.old) ticket me (W.part whole.new) }
     ensures leads { W.leads whole.old whole.new }
+    ensures keeps { Keeps W.lists me whole.old whole.new }
 {
-    whole.part_mut().give_up(ticket)
+    whole.part_mut().give_up(ticket, me)
 }
 
 // Replaces the value.
-fn send_part<T: Drop, W: Holds<Watch<T>>>(
-    whole: &mut W,
-    alloc: Global,
-    value: T,
-) -> Result<Replaced<T>, T>
+fn send_part<T: Drop, W: Holds<Watch<T>>>(whole: &mut W, value: T) -> Result<T, T>
     ensures answer { Sends (W.part whole.old) value result (W.part whole.new) }
     ensures leads { W.leads whole.old whole.new }
+    ensures keeps { (me : ℕ) → Keeps W.lists me whole.old whole.new }
 {
-    whole.part_mut().send(alloc, value)
+    whole.part_mut().send(value)
 }
 
 // Closes the value.
-fn close_part<T: Drop, W: Holds<Watch<T>>>(whole: &mut W, alloc: Global) -> VecDeque<Waiter>
-    ensures answer { Closes (W.part whole.old) result.items (W.part whole.new) }
+fn close_part<T: Drop, W: Holds<Watch<T>>>(whole: &mut W)
+    ensures answer { Closes (W.part whole.old) (W.part whole.new) }
     ensures leads { W.leads whole.old whole.new }
+    ensures keeps { (me : ℕ) → Keeps W.lists me whole.old whole.new }
 {
-    whole.part_mut().close(alloc)
+    whole.part_mut().close()
 }
 
 // Asks the watched value for the running task's future.
@@ -108,65 +106,33 @@ fn ask<T: Drop, W: Holds<Watch<T>>, C: SharedContext<W>>(
 
 // Takes the running task's future out of the line.
 fn leave<T: Drop, W: Holds<Watch<T>>, C: SharedContext<W>>(cx: &mut C, ticket: Option<u64>)
-    ensures answer { GivesUp (W.part (C.shared cx.old)) ticket (W.part (C.shared cx.new)) }
+    ensures answer { GivesUp (W.part (C.shared cx.old)) ticket (C.number cx.old) (W.part (C.shared cx.new)) }
     ensures work { C.work cx.new ≡ C.work cx.old }
     ensures reached { C.reaches cx.old cx.new }
 {
-    leave_part::<T, W>(cx.shared_mut(), ticket)
+    let me = cx.me();
+    leave_part::<T, W>(cx.shared_mut(), ticket, me)
 }
 
-// Replaces the value for the running task.
-fn replace<T: Drop, W: Holds<Watch<T>>, C: SharedContext<W>>(
-    cx: &mut C,
-    alloc: Global,
-    value: T,
-) -> Result<Replaced<T>, T>
+/// Replaces the watched value, and returns the value before. The runtime wakes all tasks that wait for another after the
+/// turn.
+///
+/// The new value comes back if the watched value was closed, or if no version is left.
+pub fn send<T: Drop, W: Holds<Watch<T>>, C: SharedContext<W>>(cx: &mut C, value: T) -> Result<T, T>
     ensures answer { Sends (W.part (C.shared cx.old)) value result (W.part (C.shared cx.new)) }
     ensures work { C.work cx.new ≡ C.work cx.old }
     ensures reached { C.reaches cx.old cx.new }
 {
-    send_part::<T, W>(cx.shared_mut(), alloc, value)
+    send_part::<T, W>(cx.shared_mut(), value)
 }
 
-// Closes the value for the running task.
-fn shut<T: Drop, W: Holds<Watch<T>>, C: SharedContext<W>>(
-    cx: &mut C,
-    alloc: Global,
-) -> VecDeque<Waiter>
-    ensures answer { Closes (W.part (C.shared cx.old)) result.items (W.part (C.shared cx.new)) }
+/// Closes the watched value. The runtime wakes all tasks that wait for another after the turn.
+pub fn close<T: Drop, W: Holds<Watch<T>>, C: SharedContext<W>>(cx: &mut C)
+    ensures answer { Closes (W.part (C.shared cx.old)) (W.part (C.shared cx.new)) }
     ensures work { C.work cx.new ≡ C.work cx.old }
     ensures reached { C.reaches cx.old cx.new }
 {
-    close_part::<T, W>(cx.shared_mut(), alloc)
-}
-
-/// Replaces the watched value, wakes all tasks that wait for another, and returns the value before.
-///
-/// The new value comes back if the watched value was closed, or if no version is left.
-pub fn send<T: Drop, W: Holds<Watch<T>>, C: SharedContext<W>>(
-    alloc: Global,
-    cx: &mut C,
-    value: T,
-) -> Result<T, T>
-    ensures wakes { SendWakes (λ x. W.part (C.shared x)) C.number C.work cx.old value result cx.new }
-    ensures reached { C.reaches cx.old cx.new }
-{
-    match replace::<T, W, C>(cx, alloc, value) {
-        Ok(replaced) => {
-            wake_all::<W, C>(cx, replaced.woken);
-            Ok(replaced.old)
-        }
-        Err(value) => Err(value),
-    }
-}
-
-/// Closes the watched value, and wakes all tasks that wait for another.
-pub fn close<T: Drop, W: Holds<Watch<T>>, C: SharedContext<W>>(alloc: Global, cx: &mut C)
-    ensures wakes { CloseWakes (λ x. W.part (C.shared x)) C.number C.work cx.old cx.new }
-    ensures reached { C.reaches cx.old cx.new }
-{
-    let woken = shut::<T, W, C>(cx, alloc);
-    wake_all::<W, C>(cx, woken);
+    close_part::<T, W>(cx.shared_mut())
 }
 
 /// The future answers the version of the last value once it differs from the seen one. It fails if the value was
@@ -178,7 +144,7 @@ impl<T: Drop, W: Holds<Watch<T>>, C: SharedContext<W>> TaskFuture<C> for Changed
 
     ghost polls = { λ f c r g d. ChangedPolls (λ x. W.part (C.shared x)) C.number C.work f.seen f.ticket c r g.ticket d × (g.seen ≡ f.seen) × OnReady r ((g.ticket ≡ None) × (g.has_answered ≡ true)) };
 
-    ghost cancels = { λ f c d. GivesUp (W.part (C.shared c)) f.ticket (W.part (C.shared d)) × (C.work d ≡ C.work c) };
+    ghost cancels = { λ f c d. ChangedCancels (λ x. W.part (C.shared x)) C.number C.work f.ticket c d };
 
     fn spent(&self) -> bool {
         self.has_answered
@@ -215,6 +181,6 @@ impl<T: Drop, W: Holds<Watch<T>>, C: SharedContext<W>> TaskFuture<C> for Changed
     }
 
     fn cancel(self, cx: &mut C) {
-        leave::<T, W, C>(cx, self.ticket);
+        leave::<T, W, C>(cx, self.ticket)
     }
 }

@@ -1,12 +1,13 @@
 // The calls of a task on a channel for one message: it sends and receives.
-ghost use Rattle.std.specs.Prelude.{◌≡◌, true, false};
+ghost use Rattle.std.specs.Prelude.{◌≡◌, true, false, ℕ};
+ghost use Rattle.std.specs.declared.option.Option.TheVariants.{None};
 ghost use Rattle.mono_model.specs.Poll.{OnReady};
 ghost use Rattle.mono_sync.specs.Oneshot.{Sends, Receives, Closes, GivesUp};
-ghost use Rattle.mono_sync.specs.Deliveries.{RecvPolls, SendWakes, CloseWakes};
+ghost use Rattle.mono_sync.specs.Deliveries.{RecvPolls, RecvCancels};
+ghost use Rattle.mono_task.specs.Owed.{Keeps};
 
 use crate::oneshot::{Oneshot, Receiving};
 use crate::parts::Holds;
-use crate::wakes::wake_task;
 use mono_model::{Host, Poll};
 use mono_task::{SharedContext, TaskFuture};
 use std::alloc::Global;
@@ -15,17 +16,31 @@ use std::marker::PhantomData;
 /// A future that receives the one message of the tasks' channel, and waits until it was sent.
 #[derive(Drop)]
 pub struct Recv<W, T> {
+    pub(crate) ticket: Option<u64>,
     pub(crate) has_answered: bool,
     shared: PhantomData<W>,
     message: PhantomData<T>,
 }
 
+/// The reason why no message was received.
+#[derive(Debug, Drop)]
+pub enum RecvError {
+    /// The channel was closed before one was sent, or the message was received.
+    Closed,
+    /// Another future waits for the message.
+    Taken,
+    /// The allocation of a place in the line failed.
+    Memory,
+}
+
 impl<W, T> Recv<W, T> {
     /// Returns a future that receives the message.
     pub fn new() -> Recv<W, T>
-        ensures { result.has_answered ≡ false }
+        ensures ticket { result.ticket ≡ None }
+        ensures unspent { result.has_answered ≡ false }
     {
         Recv {
+            ticket: None,
             has_answered: false,
             shared: PhantomData,
             message: PhantomData,
@@ -34,61 +49,74 @@ impl<W, T> Recv<W, T> {
 }
 
 // Asks the channel for a future of this task.
-fn ask_part<T: Drop, W: Holds<Oneshot<T>>>(whole: &mut W, task: u64) -> Receiving<T>
-    ensures answer { Receives (W.part whole.old) task result (W.part whole.new) }
+fn ask_part<T: Drop, W: Holds<Oneshot<T>>>(
+    whole: &mut W,
+    ticket: Option<u64>,
+    me: u64,
+) -> Receiving<T>
+    ensures answer { Receives (W.part whole.old) ticket me result (W.part whole.new) }
     ensures leads { W.leads whole.old whole.new }
+    ensures keeps { Keeps W.lists me whole.old whole.new }
 {
-    whole.part_mut().recv(task)
+    whole.part_mut().recv(ticket, me)
 }
 
-// Ends the future's wait.
-fn leave_part<T: Drop, W: Holds<Oneshot<T>>>(whole: &mut W)
-    ensures answer { GivesUp (W.part whole.old) (W.part whole.new) }
+// Takes a future out of the line.
+fn leave_part<T: Drop, W: Holds<Oneshot<T>>>(whole: &mut W, ticket: Option<u64>, me: u64)
+    ensures answer { GivesUp (W.part whole.old) ticket me (W.part whole.new) }
     ensures leads { W.leads whole.old whole.new }
+    ensures keeps { Keeps W.lists me whole.old whole.new }
 {
-    whole.part_mut().give_up()
+    whole.part_mut().give_up(ticket, me)
 }
 
 // Sends the message.
-fn send_part<T: Drop, W: Holds<Oneshot<T>>>(whole: &mut W, message: T) -> Result<Option<u64>, T>
+fn send_part<T: Drop, W: Holds<Oneshot<T>>>(whole: &mut W, message: T) -> Result<(), T>
     ensures answer { Sends (W.part whole.old) message result (W.part whole.new) }
     ensures leads { W.leads whole.old whole.new }
+    ensures keeps { (me : ℕ) → Keeps W.lists me whole.old whole.new }
 {
     whole.part_mut().send(message)
 }
 
 // Closes the channel.
-fn close_part<T: Drop, W: Holds<Oneshot<T>>>(whole: &mut W) -> Option<u64>
-    ensures answer { Closes (W.part whole.old) result (W.part whole.new) }
+fn close_part<T: Drop, W: Holds<Oneshot<T>>>(whole: &mut W)
+    ensures answer { Closes (W.part whole.old) (W.part whole.new) }
     ensures leads { W.leads whole.old whole.new }
+    ensures keeps { (me : ℕ) → Keeps W.lists me whole.old whole.new }
 {
     whole.part_mut().close()
 }
 
 // Asks the channel for the running task's future.
-fn ask<T: Drop, W: Holds<Oneshot<T>>, C: SharedContext<W>>(cx: &mut C) -> Receiving<T>
-    ensures answer { Receives (W.part (C.shared cx.old)) (C.number cx.old) result (W.part (C.shared cx.new)) }
+fn ask<T: Drop, W: Holds<Oneshot<T>>, C: SharedContext<W>>(
+    cx: &mut C,
+    ticket: Option<u64>,
+) -> Receiving<T>
+    ensures answer { Receives (W.part (C.shared cx.old)) ticket (C.number cx.old) result (W.part (C.shared cx.new)) }
     ensures work { C.work cx.new ≡ C.work cx.old }
     ensures reached { C.reaches cx.old cx.new }
 {
     let me = cx.me();
-    ask_part::<T, W>(cx.shared_mut(), me)
+    ask_part::<T, W>(cx.shared_mut(), ticket, me)
 }
 
-// Ends the wait of the running task's future.
-fn leave<T: Drop, W: Holds<Oneshot<T>>, C: SharedContext<W>>(cx: &mut C)
-    ensures answer { GivesUp (W.part (C.shared cx.old)) (W.part (C.shared cx.new)) }
+// Takes the running task's future out of the line.
+fn leave<T: Drop, W: Holds<Oneshot<T>>, C: SharedContext<W>>(cx: &mut C, ticket: Option<u64>)
+    ensures answer { GivesUp (W.part (C.shared cx.old)) ticket (C.number cx.old) (W.part (C.shared cx.new)) }
     ensures work { C.work cx.new ≡ C.work cx.old }
     ensures reached { C.reaches cx.old cx.new }
 {
-    leave_part::<T, W>(cx.shared_mut())
+    let me = cx.me();
+    leave_part::<T, W>(cx.shared_mut(), ticket, me)
 }
 
-// Puts the running task's message into the channel.
-fn put<T: Drop, W: Holds<Oneshot<T>>, C: SharedContext<W>>(
+/// Sends the message. The runtime wakes the task that waits for it after the turn. The message comes back if one was sent
+/// before or the channel was closed.
+pub fn send<T: Drop, W: Holds<Oneshot<T>>, C: SharedContext<W>>(
     cx: &mut C,
     message: T,
-) -> Result<Option<u64>, T>
+) -> Result<(), T>
     ensures answer { Sends (W.part (C.shared cx.old)) message result (W.part (C.shared cx.new)) }
     ensures work { C.work cx.new ≡ C.work cx.old }
     ensures reached { C.reaches cx.old cx.new }
@@ -96,71 +124,61 @@ fn put<T: Drop, W: Holds<Oneshot<T>>, C: SharedContext<W>>(
     send_part::<T, W>(cx.shared_mut(), message)
 }
 
-// Closes the channel for the running task.
-fn shut<T: Drop, W: Holds<Oneshot<T>>, C: SharedContext<W>>(cx: &mut C) -> Option<u64>
-    ensures answer { Closes (W.part (C.shared cx.old)) result (W.part (C.shared cx.new)) }
+/// Closes the channel. The runtime wakes the task that waits after the turn. A message that was sent can still be received.
+pub fn close<T: Drop, W: Holds<Oneshot<T>>, C: SharedContext<W>>(cx: &mut C)
+    ensures answer { Closes (W.part (C.shared cx.old)) (W.part (C.shared cx.new)) }
     ensures work { C.work cx.new ≡ C.work cx.old }
     ensures reached { C.reaches cx.old cx.new }
 {
     close_part::<T, W>(cx.shared_mut())
 }
 
-/// Sends the message, and wakes the task that waits for it. The message comes back if one was sent before or the channel was
-/// closed.
-pub fn send<T: Drop, W: Holds<Oneshot<T>>, C: SharedContext<W>>(
-    cx: &mut C,
-    message: T,
-) -> Result<(), T>
-    ensures wakes { SendWakes (λ x. W.part (C.shared x)) C.number C.work cx.old message result cx.new }
-    ensures reached { C.reaches cx.old cx.new }
-{
-    match put::<T, W, C>(cx, message) {
-        Ok(receiver) => {
-            wake_task::<W, C>(cx, receiver);
-            Ok(())
-        }
-        Err(message) => Err(message),
-    }
-}
-
-/// Closes the channel, and wakes the task that waits. A message that was sent can still be received.
-pub fn close<T: Drop, W: Holds<Oneshot<T>>, C: SharedContext<W>>(cx: &mut C)
-    ensures wakes { CloseWakes (λ x. W.part (C.shared x)) C.number C.work cx.old cx.new }
-    ensures reached { C.reaches cx.old cx.new }
-{
-    let receiver = shut::<T, W, C>(cx);
-    wake_task::<W, C>(cx, receiver);
-}
-
-/// The future answers the message, or none if the channel was closed before one was sent.
+/// The future answers the message. It fails if the channel was closed before one was sent, if another future waits for
+/// it, or if out of memory.
 impl<T: Drop, W: Holds<Oneshot<T>>, C: SharedContext<W>> TaskFuture<C> for Recv<W, T> {
-    type Output = Option<T>;
+    type Output = Result<T, RecvError>;
 
     ghost is_spent = { λ f. f.has_answered };
 
-    ghost polls = { λ f c r g d. RecvPolls (λ x. W.part (C.shared x)) C.number C.work c r d × OnReady r (g.has_answered ≡ true) };
+    ghost polls = { λ f c r g d. RecvPolls (λ x. W.part (C.shared x)) C.number C.work f.ticket c r g.ticket d × OnReady r ((g.ticket ≡ None) × (g.has_answered ≡ true)) };
 
-    ghost cancels = { λ f c d. GivesUp (W.part (C.shared c)) (W.part (C.shared d)) × (C.work d ≡ C.work c) };
+    ghost cancels = { λ f c d. RecvCancels (λ x. W.part (C.shared x)) C.number C.work f.ticket c d };
 
     fn spent(&self) -> bool {
         self.has_answered
     }
 
-    fn poll<R: Host>(&mut self, _rt: &R, _alloc: Global, cx: &mut C) -> Poll<Option<T>> {
-        match ask::<T, W, C>(cx) {
+    fn poll<R: Host>(&mut self, _rt: &R, _alloc: Global, cx: &mut C) -> Poll<Result<T, RecvError>> {
+        match ask::<T, W, C>(cx, self.ticket) {
             Receiving::Waits => Poll::Pending,
+            Receiving::Joined(ticket) => {
+                self.ticket = Some(ticket);
+                Poll::Pending
+            }
             Receiving::Received(message) => {
+                self.ticket = None;
                 self.has_answered = true;
-                Poll::Ready(Some(message))
+                Poll::Ready(Ok(message))
             }
             Receiving::Closed => {
+                self.ticket = None;
                 self.has_answered = true;
-                Poll::Ready(None)
+                Poll::Ready(Err(RecvError::Closed))
+            }
+            Receiving::Taken => {
+                self.ticket = None;
+                self.has_answered = true;
+                Poll::Ready(Err(RecvError::Taken))
+            }
+            Receiving::Memory => {
+                self.ticket = None;
+                self.has_answered = true;
+                Poll::Ready(Err(RecvError::Memory))
             }
         }
     }
 
     fn cancel(self, cx: &mut C) {
-        leave::<T, W, C>(cx);
+        leave::<T, W, C>(cx, self.ticket)
     }
 }

@@ -1,17 +1,18 @@
-//! Laws that hold over any calls of channels and of a semaphore.
+//! Laws that hold over any calls of channels, of a semaphore, of a notice and of a watched value.
 ghost use Rattle.mono_sync.specs.Laws.{PermitsAreKept, FirstComeFirstServed, ServedInOrder, InOrder, NothingAfterClose, StaysBounded, ReceivedOnce};
+ghost use Rattle.mono_sync.specs.WaitLaws.{PendingIsListed, PendingSenderIsListed, PendingReceiverIsListed, PendingDeliveryIsListed, PendingNoticeIsListed, PendingChangeIsListed, TakesOutItsOwn, NoPermitLiesIdle, NoMessageLiesIdle, NoDeliveryLiesIdle, NoNoticeLiesIdle, NoChangeLiesIdle};
 
 /// Shows that the given permits are never more than those free at the start and those put back.
 pub fn permits_are_kept()
     ensures { PermitsAreKept }
 {}
 
-/// Shows that a release serves the task that has waited longest.
+/// Shows that the task that has waited longest is served first.
 pub fn first_come_first_served()
     ensures { FirstComeFirstServed }
 {}
 
-/// Shows that a receive serves the sender that has waited longest, and a send to an open channel the receiver.
+/// Shows that of the senders, and of the receivers, the one that has waited longest is served first.
 pub fn served_in_order<T>()
     ensures { ServedInOrder T }
 {}
@@ -34,4 +35,64 @@ pub fn stays_bounded<T>()
 /// Shows that a oneshot channel takes one message at most and none after a close, and that it comes out once.
 pub fn received_once<T>()
     ensures { ReceivedOnce T }
+{}
+
+/// Shows that a pending acquire is listed with its task, at its ticket.
+pub fn a_pending_acquire_is_listed()
+    ensures { PendingIsListed }
+{}
+
+/// Shows that a pending send is listed with its task, at its ticket among the senders.
+pub fn a_pending_send_is_listed<T>()
+    ensures { PendingSenderIsListed T }
+{}
+
+/// Shows that a pending receive is listed with its task, at its ticket among the receivers.
+pub fn a_pending_receive_is_listed<T>()
+    ensures { PendingReceiverIsListed T }
+{}
+
+/// Shows that a pending receive of the one message is listed with its task, at its ticket.
+pub fn a_pending_delivery_is_listed<T>()
+    ensures { PendingDeliveryIsListed T }
+{}
+
+/// Shows that a future that waits for a notice is listed with its task, at its ticket.
+pub fn a_pending_notice_is_listed()
+    ensures { PendingNoticeIsListed }
+{}
+
+/// Shows that a future that waits for another value is listed with its task, at its ticket.
+pub fn a_pending_change_is_listed<T>()
+    ensures { PendingChangeIsListed T }
+{}
+
+/// Shows that an acquire that asks or is given up takes out its own task alone, at its own ticket.
+pub fn a_future_takes_out_its_own()
+    ensures { TakesOutItsOwn }
+{}
+
+/// Shows that while a task waits for a permit and nothing is owed, no permit is free.
+pub fn no_permit_lies_idle()
+    ensures { NoPermitLiesIdle }
+{}
+
+/// Shows that while a task waits at a channel and nothing is owed, no place is free for it, or no message is there for it.
+pub fn no_message_lies_idle<T>()
+    ensures { NoMessageLiesIdle T }
+{}
+
+/// Shows that while a task waits for the one message and nothing is owed, the message is not there or is promised.
+pub fn no_delivery_lies_idle<T>()
+    ensures { NoDeliveryLiesIdle T }
+{}
+
+/// Shows that while a task waits for a notice and nothing is owed, no notice is left.
+pub fn no_notice_lies_idle()
+    ensures { NoNoticeLiesIdle }
+{}
+
+/// Shows that while a task waits for another value and nothing is owed, none was sent since it came.
+pub fn no_change_lies_idle<T>()
+    ensures { NoChangeLiesIdle T }
 {}

@@ -13,7 +13,6 @@ pub mod oneshot;
 mod parts;
 pub mod permits;
 mod semaphores;
-mod wakes;
 pub mod watch;
 
 pub use lines::{Line, Waiter};

@@ -1,25 +1,19 @@
 // The tasks that wait, in the order of their arrival.
-ghost use Rattle.std.specs.Prelude.{◌≡◌, [], MatchBool};
-ghost use Rattle.mono_sync.specs.Lines.{stands, still_waits, grants_left, left_by, place_of, renewed, Renews, Joins, Pops, Serves, Comes};
+ghost use Rattle.std.specs.Prelude.{◌≡◌, ◌<◌, ◌≤◌, ◌+◌, [], length, MatchBool, not};
+ghost use Rattle.mono_sync.specs.declared.lines.Coming.TheVariants.{Free, Full};
+ghost use Rattle.mono_sync.specs.Lines.{holder_of, place_of, Comes, Leaves, Marks, Joins, Pops, Serves, Takes, TakesBelow, starts_below, is_held};
+ghost use Rattle.std.specs.List.{list_any};
 
 use std::alloc::{AllocError, Global};
 use std::collections::VecDeque;
-use std::mem;
 
 /// A waiting task, with the ticket that its future drew.
 #[derive(Clone, Copy)]
 pub struct Waiter {
     pub(crate) ticket: u64,
     pub(crate) task: u64,
-}
-
-impl Waiter {
-    /// Returns the number of the task.
-    pub fn task(&self) -> u64
-        ensures { result ≡ self.now.task }
-    {
-        self.task
-    }
+    // Whether the future left in a turn of another task. The task is woken in its turn, and gets no grant.
+    pub(crate) has_left: bool,
 }
 
 /// Tasks that wait, first come, first served.
@@ -33,6 +27,17 @@ pub struct Line {
     pub(crate) granted: usize,
     // The next ticket.
     pub(crate) next: u64,
+}
+
+/// The answer of a line to a future that asks.
+#[derive(Clone, Copy)]
+pub enum Coming {
+    /// The future waits.
+    Waits,
+    /// The future does not wait, and there is room for it.
+    Free,
+    /// The future does not wait, and there is no room for it.
+    Full,
 }
 
 impl Line {
@@ -49,11 +54,11 @@ impl Line {
         }
     }
 
-    /// Returns whether the future with this ticket waits.
-    pub fn has(&self, ticket: u64) -> bool
-        ensures { result ≡ stands self.now.waiters.items ticket }
+    // Returns whether no task waits.
+    fn is_empty(&self) -> bool
+        ensures { MatchBool result (self.now.waiters.items ≡ []) (0 < length self.now.waiters.items) }
     {
-        self.waiters.iter().any(|w| w.ticket == ticket)
+        self.waiters.is_empty()
     }
 
     // Returns the place of the future with this ticket.
@@ -63,31 +68,67 @@ impl Line {
         self.waiters.iter().position(|w| w.ticket == ticket)
     }
 
-    // Makes this task wait in the place of the future with this ticket, if there is one.
-    fn renew(&mut self, ticket: u64, task: u64)
-        ensures waiters { self.new.waiters.items ≡ renewed self.old.waiters.items ticket task }
-        ensures granted { self.new.granted ≡ self.old.granted }
-        ensures next { self.new.next ≡ self.old.next }
+    /// Returns the task that waits with this ticket.
+    pub fn holder_of(&self, ticket: u64) -> Option<u64>
+        ensures { result ≡ holder_of self.now.waiters.items ticket }
     {
-        if let Some(place) = self.place_of(ticket) {
-            self.waiters[place] = Waiter { ticket, task };
+        match self.place_of(ticket) {
+            None => None,
+            Some(place) => Some(self.waiters[place].task),
         }
     }
 
-    /// Returns whether the future that drew this ticket, if any, waits. If it does, it waits for this task from now on.
-    pub fn still_in(&mut self, ticket: Option<u64>, task: u64) -> bool
-        ensures waits { result ≡ still_waits self.old ticket }
-        ensures renews { MatchBool result (Renews self.old ticket task self.new) (self.new ≡ self.old) }
+    // Marks the future with this ticket, for which this task waits, as one that has left.
+    fn mark(&mut self, ticket: u64, task: u64)
+        ensures { Marks self.old ticket task self.new }
+    {
+        if let Some(place) = self.place_of(ticket) {
+            self.waiters[place] = Waiter {
+                ticket,
+                task,
+                has_left: true,
+            };
+        }
+    }
+
+    /// Returns whether `room` is more than the grants that are not collected and the tasks that wait.
+    pub fn has_room(&self, room: usize) -> bool
+        ensures { MatchBool result (self.now.granted + length self.now.waiters.items < room) (room ≤ self.now.granted + length self.now.waiters.items) }
+    {
+        self.waiters.len() < room.saturating_sub(self.granted)
+    }
+
+    // Answers a future that does not wait.
+    fn answer(has_room: bool) -> Coming
+        ensures { MatchBool has_room (result ≡ Free) (result ≡ Full) }
+    {
+        if has_room {
+            return Coming::Free;
+        }
+        Coming::Full
+    }
+
+    /// Answers a future of this task that asks with the ticket that it drew, if any. A future that was served collects
+    /// its grant. One that waits for another task has left its place: that task is woken in its turn.
+    pub fn come(&mut self, ticket: Option<u64>, me: u64, room: usize) -> Coming
+        ensures comes { Comes self.old ticket me room result self.new }
+        ensures some { result ≡ Free → 0 < room }
     {
         match ticket {
-            None => false,
-            Some(ticket) => {
-                if !self.has(ticket) {
-                    return false;
+            None => Line::answer(self.has_room(room)),
+            Some(ticket) => match self.holder_of(ticket) {
+                None => {
+                    self.granted = self.granted.saturating_sub(1);
+                    Line::answer(self.granted < room)
                 }
-                self.renew(ticket, task);
-                true
-            }
+                Some(task) => {
+                    if task == me {
+                        return Coming::Waits;
+                    }
+                    self.mark(ticket, task);
+                    Line::answer(self.has_room(room))
+                }
+            },
         }
     }
 
@@ -99,7 +140,11 @@ impl Line {
         let Some(next) = ticket.checked_add(1) else {
             return Err(AllocError);
         };
-        match self.waiters.push_back(Waiter { ticket, task }) {
+        match self.waiters.push_back(Waiter {
+            ticket,
+            task,
+            has_left: false,
+        }) {
             Ok(()) => {
                 self.next = next;
                 Ok(ticket)
@@ -108,87 +153,98 @@ impl Line {
         }
     }
 
-    /// Removes the first task from the line, with nothing reserved for it.
-    pub fn pop(&mut self) -> Option<Waiter>
-        ensures pops { Pops self.old result self.new }
-    {
-        self.waiters.pop_front()
-    }
-
-    /// Removes the first task from the line and reserves a grant for it, if fewer than `room` grants are not yet
-    /// collected.
-    pub fn serve(&mut self, room: usize) -> Option<Waiter>
-        ensures serves { Serves self.old.waiters.items self.old.granted room result self.new }
-        ensures next { self.new.next ≡ self.old.next }
-    {
-        if self.granted >= room {
-            return None;
-        }
-        match self.waiters.pop_front() {
-            None => None,
-            Some(first) => {
-                self.granted += 1;
-                Some(first)
-            }
-        }
-    }
-
-    /// Collects a future's grant, unless the future still waits: then it waits for this task from now on. Returns whether
-    /// it still waits.
-    #[inline(always)]
-    pub fn redeem_for(&mut self, ticket: Option<u64>, task: u64) -> bool
-        ensures waits { result ≡ still_waits self.old ticket }
-        ensures comes { MatchBool result (Renews self.old ticket task self.new) (Comes self.old ticket self.new) }
-    {
-        match ticket {
-            None => false,
-            Some(ticket) => {
-                if self.has(ticket) {
-                    self.renew(ticket, task);
-                    return true;
-                }
-                self.granted = self.granted.saturating_sub(1);
-                false
-            }
-        }
-    }
-
-    // Collects a future's grant, unless the future still waits. Returns whether it still waits.
-    fn redeem(&mut self, ticket: Option<u64>) -> bool
-        ensures waits { result ≡ still_waits self.old ticket }
-        ensures comes { Comes self.old ticket self.new }
-    {
-        match ticket {
-            None => false,
-            Some(ticket) => {
-                if self.has(ticket) {
-                    return true;
-                }
-                self.granted = self.granted.saturating_sub(1);
-                false
-            }
-        }
-    }
-
-    /// Takes a future out of the line. If it was served, its grant is free again.
-    pub fn leave(&mut self, ticket: Option<u64>)
-        ensures waiters { self.new.waiters.items ≡ left_by self.old.waiters.items ticket }
-        ensures granted { self.new.granted ≡ grants_left self.old ticket }
-        ensures next { self.new.next ≡ self.old.next }
+    /// Takes a future out of the line, in a turn of this task. If it was served, its grant is free again. If it waits for
+    /// another task, that task is woken in its turn.
+    pub fn leave(&mut self, ticket: Option<u64>, me: u64)
+        ensures { Leaves self.old ticket me self.new }
     {
         if let Some(ticket) = ticket {
-            let _ = self.redeem(Some(ticket));
-            self.waiters.retain(|w| w.ticket != ticket);
+            match self.holder_of(ticket) {
+                None => self.granted = self.granted.saturating_sub(1),
+                Some(task) => {
+                    if task == me {
+                        self.waiters
+                            .retain(|w| !(w.ticket == ticket && w.task == me));
+                        return;
+                    }
+                    self.mark(ticket, task);
+                }
+            }
         }
     }
 
-    /// Takes all tasks out of the line.
-    pub fn take_all(&mut self, alloc: Global) -> VecDeque<Waiter>
-        ensures all { result.items ≡ self.old.waiters.items }
-        ensures waiters { self.new.waiters.items ≡ [] }
-        ensures granted { self.new.granted ≡ self.old.granted }
-        ensures next { self.new.next ≡ self.old.next }
+    /// Removes the first task from the line, with nothing reserved for it.
+    pub fn pop(&mut self) -> Option<Waiter>
+        ensures { Pops self.old result self.new }
     {
-        mem::replace(&mut self.waiters, VecDeque::new(alloc))
+        if self.waiters.is_empty() {
+            return None;
+        }
+        let Some(first) = self.waiters.pop_front() else {
+            unreachable!()
+        };
+        Some(first)
+    }
+
+    /// Removes the first task from the line if fewer than `room` grants are not yet collected. Reserves a grant for it,
+    /// unless its future has left.
+    pub fn serve(&mut self, room: usize) -> Option<Waiter>
+        ensures { Serves self.old room result self.new }
+    {
+        if self.granted >= room || self.waiters.is_empty() {
+            return None;
+        }
+        let Some(served) = self.waiters.pop_front() else {
+            unreachable!()
+        };
+        if !served.has_left {
+            self.granted += 1;
+        }
+        Some(served)
+    }
+
+    /// Removes the first task that is to be woken from the line: one for which there is room, or any once the value was
+    /// closed.
+    pub fn take(&mut self, is_closed: bool, room: usize) -> Option<Waiter>
+        ensures { Takes is_closed room self.old result self.new }
+    {
+        if is_closed {
+            return self.pop();
+        }
+        self.serve(room)
+    }
+
+    /// Returns whether the first task drew its ticket before this one was the next.
+    pub fn starts_below(&self, low: u64) -> bool
+        ensures { result ≡ starts_below low self.now.waiters.items }
+    {
+        if self.is_empty() {
+            return false;
+        }
+        self.waiters[0].ticket < low
+    }
+
+    /// Removes the first task from the line, if it drew its ticket before this one was the next, or the value was closed.
+    pub fn take_below(&mut self, is_closed: bool, low: u64) -> Option<Waiter>
+        ensures { TakesBelow is_closed low self.old result self.new }
+    {
+        if is_closed || self.starts_below(low) {
+            return self.pop();
+        }
+        None
+    }
+
+    // Returns whether a task waits whose future has not left.
+    fn has_any(&self) -> bool
+        ensures { result ≡ list_any (λ w. not w.has_left) self.now.waiters.items }
+    {
+        self.waiters.iter().any(|w| !w.has_left)
+    }
+
+    /// Returns whether a future waits, or was served and has not collected its grant.
+    pub fn is_held(&self) -> bool
+        ensures { result ≡ is_held self.now }
+    {
+        self.granted > 0 || self.has_any()
     }
 }

@@ -1,18 +1,16 @@
 // The calls of a task on a channel: it sends and receives.
-ghost use Rattle.std.specs.Prelude.{◌≡◌, true, false};
+ghost use Rattle.std.specs.Prelude.{◌≡◌, true, false, ℕ};
 ghost use Rattle.std.specs.declared.option.Option.TheVariants.{None, Some};
 ghost use Rattle.mono_model.specs.Poll.{OnReady};
 ghost use Rattle.mono_sync.specs.Mpsc.{TriesToSend, TriesToReceive, Sends, Receives, GivesUpSend, GivesUpReceive, Closes};
-ghost use Rattle.mono_sync.specs.Messages.{SendPolls, SendCancels, RecvPolls, RecvCancels, TrySendWakes, TryRecvWakes, CloseWakes, has_none};
+ghost use Rattle.mono_sync.specs.Messages.{SendPolls, SendCancels, RecvPolls, RecvCancels, has_none};
+ghost use Rattle.mono_task.specs.Owed.{Keeps};
 
-use crate::lines::Waiter;
 use crate::mpsc::{Channel, Receiving, Sending, TryRecvError, TrySendError};
 use crate::parts::Holds;
-use crate::wakes::{wake_all, wake_first};
 use mono_model::{Host, Poll};
 use mono_task::{SharedContext, TaskFuture};
 use std::alloc::{AllocError, Global};
-use std::collections::VecDeque;
 use std::marker::PhantomData;
 use std::mem;
 
@@ -76,19 +74,19 @@ impl<W, T> Recv<W, T> {
 fn try_send_part<T: Drop, W: Holds<Channel<T>>>(
     whole: &mut W,
     message: T,
-) -> Result<Option<Waiter>, TrySendError<T>>
+) -> Result<(), TrySendError<T>>
     ensures answer { TriesToSend (W.part whole.old) message result (W.part whole.new) }
     ensures leads { W.leads whole.old whole.new }
+    ensures keeps { (me : ℕ) → Keeps W.lists me whole.old whole.new }
 {
     whole.part_mut().try_send(message)
 }
 
 // Takes a message at once.
-fn try_recv_part<T: Drop, W: Holds<Channel<T>>>(
-    whole: &mut W,
-) -> Result<(T, Option<Waiter>), TryRecvError>
+fn try_recv_part<T: Drop, W: Holds<Channel<T>>>(whole: &mut W) -> Result<T, TryRecvError>
     ensures answer { TriesToReceive (W.part whole.old) result (W.part whole.new) }
     ensures leads { W.leads whole.old whole.new }
+    ensures keeps { (me : ℕ) → Keeps W.lists me whole.old whole.new }
 {
     whole.part_mut().try_recv()
 }
@@ -98,57 +96,53 @@ fn send_part<T: Drop, W: Holds<Channel<T>>>(
     whole: &mut W,
     ticket: Option<u64>,
     message: T,
-    task: u64,
+    me: u64,
 ) -> Sending<T>
-    ensures answer { Sends (W.part whole.old) ticket message task result (W.part whole.new) }
+    ensures answer { Sends (W.part whole.old) ticket message me result (W.part whole.new) }
     ensures leads { W.leads whole.old whole.new }
+    ensures keeps { Keeps W.lists me whole.old whole.new }
 {
-    whole.part_mut().send(ticket, message, task)
+    whole.part_mut().send(ticket, message, me)
 }
 
 // Asks the channel for a future of this task that receives.
 fn recv_part<T: Drop, W: Holds<Channel<T>>>(
     whole: &mut W,
     ticket: Option<u64>,
-    task: u64,
+    me: u64,
 ) -> Receiving<T>
-    ensures answer { Receives (W.part whole.old) ticket task result (W.part whole.new) }
+    ensures answer { Receives (W.part whole.old) ticket me result (W.part whole.new) }
     ensures leads { W.leads whole.old whole.new }
+    ensures keeps { Keeps W.lists me whole.old whole.new }
 {
-    whole.part_mut().recv(ticket, task)
+    whole.part_mut().recv(ticket, me)
 }
 
 // Takes a future out of the line of senders.
-fn leave_send_part<T: Drop, W: Holds<Channel<T>>>(
-    whole: &mut W,
-    ticket: Option<u64>,
-) -> Option<Waiter>
-    ensures answer { GivesUpSend (W.part whole.old) ticket result (W.part whole.new) }
+fn leave_send_part<T: Drop, W: Holds<Channel<T>>>(whole: &mut W, ticket: Option<u64>, me: u64)
+    ensures answer { GivesUpSend (W.part whole.old) ticket me (W.part whole.new) }
     ensures leads { W.leads whole.old whole.new }
+    ensures keeps { Keeps W.lists me whole.old whole.new }
 {
-    whole.part_mut().give_up_send(ticket)
+    whole.part_mut().give_up_send(ticket, me)
 }
 
 // Takes a future out of the line of receivers.
-fn leave_recv_part<T: Drop, W: Holds<Channel<T>>>(
-    whole: &mut W,
-    ticket: Option<u64>,
-) -> Option<Waiter>
-    ensures answer { GivesUpReceive (W.part whole.old) ticket result (W.part whole.new) }
+fn leave_recv_part<T: Drop, W: Holds<Channel<T>>>(whole: &mut W, ticket: Option<u64>, me: u64)
+    ensures answer { GivesUpReceive (W.part whole.old) ticket me (W.part whole.new) }
     ensures leads { W.leads whole.old whole.new }
+    ensures keeps { Keeps W.lists me whole.old whole.new }
 {
-    whole.part_mut().give_up_recv(ticket)
+    whole.part_mut().give_up_recv(ticket, me)
 }
 
 // Closes the channel.
-fn close_part<T: Drop, W: Holds<Channel<T>>>(
-    whole: &mut W,
-    alloc: Global,
-) -> (VecDeque<Waiter>, VecDeque<Waiter>)
-    ensures answer { Closes (W.part whole.old) result.0.items result.1.items (W.part whole.new) }
+fn close_part<T: Drop, W: Holds<Channel<T>>>(whole: &mut W)
+    ensures answer { Closes (W.part whole.old) (W.part whole.new) }
     ensures leads { W.leads whole.old whole.new }
+    ensures keeps { (me : ℕ) → Keeps W.lists me whole.old whole.new }
 {
-    whole.part_mut().close(alloc)
+    whole.part_mut().close()
 }
 
 // Asks the channel for the running task's future that sends.
@@ -179,65 +173,27 @@ fn ask_recv<T: Drop, W: Holds<Channel<T>>, C: SharedContext<W>>(
 }
 
 // Takes the running task's future out of the line of senders.
-fn leave_send<T: Drop, W: Holds<Channel<T>>, C: SharedContext<W>>(
-    cx: &mut C,
-    ticket: Option<u64>,
-) -> Option<Waiter>
-    ensures answer { GivesUpSend (W.part (C.shared cx.old)) ticket result (W.part (C.shared cx.new)) }
+fn leave_send<T: Drop, W: Holds<Channel<T>>, C: SharedContext<W>>(cx: &mut C, ticket: Option<u64>)
+    ensures answer { GivesUpSend (W.part (C.shared cx.old)) ticket (C.number cx.old) (W.part (C.shared cx.new)) }
     ensures work { C.work cx.new ≡ C.work cx.old }
     ensures reached { C.reaches cx.old cx.new }
 {
-    leave_send_part::<T, W>(cx.shared_mut(), ticket)
+    let me = cx.me();
+    leave_send_part::<T, W>(cx.shared_mut(), ticket, me)
 }
 
 // Takes the running task's future out of the line of receivers.
-fn leave_recv<T: Drop, W: Holds<Channel<T>>, C: SharedContext<W>>(
-    cx: &mut C,
-    ticket: Option<u64>,
-) -> Option<Waiter>
-    ensures answer { GivesUpReceive (W.part (C.shared cx.old)) ticket result (W.part (C.shared cx.new)) }
+fn leave_recv<T: Drop, W: Holds<Channel<T>>, C: SharedContext<W>>(cx: &mut C, ticket: Option<u64>)
+    ensures answer { GivesUpReceive (W.part (C.shared cx.old)) ticket (C.number cx.old) (W.part (C.shared cx.new)) }
     ensures work { C.work cx.new ≡ C.work cx.old }
     ensures reached { C.reaches cx.old cx.new }
 {
-    leave_recv_part::<T, W>(cx.shared_mut(), ticket)
+    let me = cx.me();
+    leave_recv_part::<T, W>(cx.shared_mut(), ticket, me)
 }
 
-// Queues a message at once for the running task.
-fn queue<T: Drop, W: Holds<Channel<T>>, C: SharedContext<W>>(
-    cx: &mut C,
-    message: T,
-) -> Result<Option<Waiter>, TrySendError<T>>
-    ensures answer { TriesToSend (W.part (C.shared cx.old)) message result (W.part (C.shared cx.new)) }
-    ensures work { C.work cx.new ≡ C.work cx.old }
-    ensures reached { C.reaches cx.old cx.new }
-{
-    try_send_part::<T, W>(cx.shared_mut(), message)
-}
-
-// Takes a message at once for the running task.
-fn take<T: Drop, W: Holds<Channel<T>>, C: SharedContext<W>>(
-    cx: &mut C,
-) -> Result<(T, Option<Waiter>), TryRecvError>
-    ensures answer { TriesToReceive (W.part (C.shared cx.old)) result (W.part (C.shared cx.new)) }
-    ensures work { C.work cx.new ≡ C.work cx.old }
-    ensures reached { C.reaches cx.old cx.new }
-{
-    try_recv_part::<T, W>(cx.shared_mut())
-}
-
-// Closes the channel for the running task.
-fn shut<T: Drop, W: Holds<Channel<T>>, C: SharedContext<W>>(
-    cx: &mut C,
-    alloc: Global,
-) -> (VecDeque<Waiter>, VecDeque<Waiter>)
-    ensures answer { Closes (W.part (C.shared cx.old)) result.0.items result.1.items (W.part (C.shared cx.new)) }
-    ensures work { C.work cx.new ≡ C.work cx.old }
-    ensures reached { C.reaches cx.old cx.new }
-{
-    close_part::<T, W>(cx.shared_mut(), alloc)
-}
-
-/// Sends a message at once, and wakes the first task that waits to receive: the message is promised to it.
+/// Sends a message at once. If tasks wait to receive, it is owed to the first of them, which the runtime wakes after the
+/// turn.
 ///
 /// Refused with `Closed` if the channel was closed, with `Full` if no place is free, and with `Memory` if the
 /// allocation failed. A refused message comes back.
@@ -245,47 +201,37 @@ pub fn try_send<T: Drop, W: Holds<Channel<T>>, C: SharedContext<W>>(
     cx: &mut C,
     message: T,
 ) -> Result<(), TrySendError<T>>
-    ensures wakes { TrySendWakes (λ x. W.part (C.shared x)) C.number C.work cx.old message result cx.new }
+    ensures answer { TriesToSend (W.part (C.shared cx.old)) message result (W.part (C.shared cx.new)) }
+    ensures work { C.work cx.new ≡ C.work cx.old }
     ensures reached { C.reaches cx.old cx.new }
 {
-    match queue::<T, W, C>(cx, message) {
-        Ok(first) => {
-            wake_first::<W, C>(cx, first);
-            Ok(())
-        }
-        Err(error) => Err(error),
-    }
+    try_send_part::<T, W>(cx.shared_mut(), message)
 }
 
-/// Receives a message at once, and wakes the first task that waits to send: the place is reserved for it.
+/// Receives a message at once. If tasks wait to send, the place is owed to the first of them, which the runtime wakes after
+/// the turn.
 ///
-/// Refused with `Empty` if no message is queued that is not promised, and with `Disconnected` if the channel was closed
-/// and no message is left.
+/// Refused with `Empty` if no message is queued that is neither promised nor owed, and with `Disconnected` if the channel
+/// was closed and no message is left.
 pub fn try_recv<T: Drop, W: Holds<Channel<T>>, C: SharedContext<W>>(
     cx: &mut C,
 ) -> Result<T, TryRecvError>
-    ensures wakes { TryRecvWakes (λ x. W.part (C.shared x)) C.number C.work cx.old result cx.new }
+    ensures answer { TriesToReceive (W.part (C.shared cx.old)) result (W.part (C.shared cx.new)) }
+    ensures work { C.work cx.new ≡ C.work cx.old }
     ensures reached { C.reaches cx.old cx.new }
 {
-    match take::<T, W, C>(cx) {
-        Ok((message, first)) => {
-            wake_first::<W, C>(cx, first);
-            Ok(message)
-        }
-        Err(error) => Err(error),
-    }
+    try_recv_part::<T, W>(cx.shared_mut())
 }
 
-/// Closes the channel, wakes all tasks that wait to send, then all that wait to receive.
+/// Closes the channel. The runtime wakes all tasks that wait to send, then all that wait to receive, after the turn.
 ///
 /// The queued messages can still be received.
-pub fn close<T: Drop, W: Holds<Channel<T>>, C: SharedContext<W>>(alloc: Global, cx: &mut C)
-    ensures wakes { CloseWakes (λ x. W.part (C.shared x)) C.number C.work cx.old cx.new }
+pub fn close<T: Drop, W: Holds<Channel<T>>, C: SharedContext<W>>(cx: &mut C)
+    ensures answer { Closes (W.part (C.shared cx.old)) (W.part (C.shared cx.new)) }
+    ensures work { C.work cx.new ≡ C.work cx.old }
     ensures reached { C.reaches cx.old cx.new }
 {
-    let (senders, receivers) = shut::<T, W, C>(cx, alloc);
-    wake_all::<W, C>(cx, senders);
-    wake_all::<W, C>(cx, receivers);
+    close_part::<T, W>(cx.shared_mut())
 }
 
 /// The future answers once the message is queued. It fails if the channel was closed, or if out of memory; then the
@@ -313,18 +259,16 @@ impl<T: Drop, W: Holds<Channel<T>>, C: SharedContext<W>> TaskFuture<C> for Send<
             unreachable!()
         };
         match ask_send::<T, W, C>(cx, self.ticket, message) {
-            Sending::Sent(first) => {
+            Sending::Sent => {
                 self.ticket = None;
-                wake_first::<W, C>(cx, first);
                 Poll::Ready(Ok(()))
             }
             Sending::Closed(message) => {
                 self.ticket = None;
                 Poll::Ready(Err(SendError::Closed(message)))
             }
-            Sending::Memory(message, first) => {
+            Sending::Memory(message) => {
                 self.ticket = None;
-                wake_first::<W, C>(cx, first);
                 Poll::Ready(Err(SendError::Memory(message)))
             }
             Sending::Joined(ticket, message) => {
@@ -340,8 +284,7 @@ impl<T: Drop, W: Holds<Channel<T>>, C: SharedContext<W>> TaskFuture<C> for Send<
     }
 
     fn cancel(self, cx: &mut C) {
-        let first = leave_send::<T, W, C>(cx, self.ticket);
-        wake_first::<W, C>(cx, first);
+        leave_send::<T, W, C>(cx, self.ticket)
     }
 }
 
@@ -372,10 +315,9 @@ impl<T: Drop, W: Holds<Channel<T>>, C: SharedContext<W>> TaskFuture<C> for Recv<
                 self.ticket = Some(ticket);
                 Poll::Pending
             }
-            Receiving::Received(message, first) => {
+            Receiving::Received(message) => {
                 self.ticket = None;
                 self.has_answered = true;
-                wake_first::<W, C>(cx, first);
                 Poll::Ready(Ok(Some(message)))
             }
             Receiving::Closed => {
@@ -392,7 +334,6 @@ impl<T: Drop, W: Holds<Channel<T>>, C: SharedContext<W>> TaskFuture<C> for Recv<
     }
 
     fn cancel(self, cx: &mut C) {
-        let first = leave_recv::<T, W, C>(cx, self.ticket);
-        wake_first::<W, C>(cx, first);
+        leave_recv::<T, W, C>(cx, self.ticket)
     }
 }

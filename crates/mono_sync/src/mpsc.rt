@@ -1,10 +1,12 @@
 // A bounded channel as a plain value.
-ghost use Rattle.std.specs.Prelude.{◌≡◌, ◌-◌, [], true, false, ◌||◌, length, MatchResult, MatchOption};
+ghost use Rattle.std.specs.Prelude.{◌≡◌, ◌-◌, [], false, length, ℕ, ◌||◌};
 ghost use Rattle.mono_sync.specs.MpscRuns.{Leads, leads_itself, leads_on};
-ghost use Rattle.mono_sync.specs.Mpsc.{Pushes, Pops, Rests, Kept, TriesToSend, TriesToReceive, Sends, Receives, GivesUpSend, GivesUpReceive, Closes, places};
+ghost use Rattle.mono_sync.specs.Mpsc.{owed_by, listed_by, waiting_in, places, TriesToSend, TriesToReceive, Sends, Receives, GivesUpSend, GivesUpReceive, Closes, PaysSender, PaysReceiver};
 ghost use Rattle.mono_sync.specs.Lines.{has_task};
+ghost use Rattle.mono_sync.specs.Listed.{channel_some};
+ghost use Rattle.mono_task.specs.Owed.{Keeps};
 
-use crate::lines::{Line, Waiter};
+use crate::lines::{Coming, Line, Waiter};
 pub use crate::messages::{Recv, Send, SendError, close, try_recv, try_send};
 use mono_task::SharedState;
 use std::alloc::Global;
@@ -12,8 +14,8 @@ use std::collections::VecDeque;
 
 /// At most `bound` messages, the tasks that wait to send one, and the tasks that wait to receive one.
 ///
-/// Both lines are first come, first served. A place that becomes free while tasks wait to send is reserved for the
-/// first of them. A message that comes while tasks wait to receive is promised to the first of them.
+/// Both lines are first come, first served. A place that becomes free while tasks wait to send is owed to the first of
+/// them. A message that comes while tasks wait to receive is owed to the first of them.
 #[derive(Drop)]
 pub struct Channel<T> {
     pub(crate) queue: VecDeque<T>,
@@ -28,7 +30,7 @@ pub struct Channel<T> {
 pub enum TrySendError<T> {
     /// The channel was closed.
     Closed(T),
-    /// Each place is taken, or reserved for a task that waited.
+    /// Each place is taken, or owed to a task that waits, or reserved for one that was served.
     Full(T),
     /// The allocation failed.
     Memory(T),
@@ -37,7 +39,7 @@ pub enum TrySendError<T> {
 /// The reason why no message was received at once.
 #[derive(Debug, Drop)]
 pub enum TryRecvError {
-    /// No message is queued that is not promised to a task that waited.
+    /// Each queued message is owed to a task that waits, or promised to one that was served.
     Empty,
     /// The channel was closed, and no message is left.
     Disconnected,
@@ -46,12 +48,12 @@ pub enum TryRecvError {
 /// The answer to a future that sends.
 #[derive(Drop)]
 pub enum Sending<T> {
-    /// The message is queued. The task that waited to receive, if any, is to be woken.
-    Sent(Option<Waiter>),
+    /// The message is queued.
+    Sent,
     /// The channel was closed. The message comes back.
     Closed(T),
-    /// The allocation failed. The message comes back, and the task for which its place is now reserved is to be woken.
-    Memory(T, Option<Waiter>),
+    /// The allocation failed. The message comes back.
+    Memory(T),
     /// The future waits from now on, with this ticket. The message comes back.
     Joined(u64, T),
     /// The future still waits. The message comes back.
@@ -61,8 +63,8 @@ pub enum Sending<T> {
 /// The answer to a future that receives.
 #[derive(Drop)]
 pub enum Receiving<T> {
-    /// The first message. The task that waited to send, if any, is to be woken.
-    Received(T, Option<Waiter>),
+    /// The first message.
+    Received(T),
     /// The channel was closed, and no message is left.
     Closed,
     /// The allocation of a place in the line failed.
@@ -73,15 +75,58 @@ pub enum Receiving<T> {
     Waits,
 }
 
-/// Calls alone lead one channel to another.
+/// A channel owes a wake to each task that waits to send for which a place is free, and to each that waits to receive for
+/// which a message is queued. It owes one to all once it was closed.
 impl<T> SharedState for Channel<T> {
     ghost leads = { Leads };
 
-    ghost lists = { λ a t. has_task a.senders t || has_task a.receivers t };
+    ghost names = { λ a t. has_task a.senders t || has_task a.receivers t };
+
+    ghost lists = { listed_by };
+
+    ghost waiting = { waiting_in };
+
+    ghost owes = { owed_by };
+
+    fn next_owed(&mut self) -> Option<u64> {
+        if let Some(first) = self.pay_sender() {
+            return Some(first.task);
+        }
+        match self.pay_receiver() {
+            None => None,
+            Some(first) => Some(first.task),
+        }
+    }
 
     ghost leads_itself = { leads_itself };
 
     ghost leads_on = { leads_on };
+
+    ghost lists_some = { channel_some };
+}
+
+impl<T> Channel<T> {
+    // Returns how many places are not taken by a message.
+    fn places(&self) -> usize
+        ensures { result ≡ places self.now }
+    {
+        self.bound.saturating_sub(self.queue.len())
+    }
+
+    // Takes the first sender out of its line, if a place is free for it or the channel was closed.
+    fn pay_sender(&mut self) -> Option<Waiter>
+        ensures { PaysSender self.old result self.new }
+    {
+        let room = self.places();
+        self.senders.take(self.is_closed, room)
+    }
+
+    // Takes the first receiver out of its line, if a message is there for it or the channel was closed.
+    fn pay_receiver(&mut self) -> Option<Waiter>
+        ensures { PaysReceiver self.old result self.new }
+    {
+        self.receivers.take(self.is_closed, self.queue.len())
+    }
 }
 
 impl<T: Drop> Channel<T> {
@@ -119,155 +164,135 @@ impl<T: Drop> Channel<T> {
         self.is_closed
     }
 
-    // Returns how many places are not taken by a message.
-    fn places(&self) -> usize
-        ensures { result ≡ places self.now }
-    {
-        self.bound.saturating_sub(self.queue.len())
-    }
-
-    // Appends a message to the queue. The first task that waits to receive is to be woken. If out of memory, the
-    // message comes back.
-    fn push(&mut self, message: T) -> Result<Option<Waiter>, T>
-        ensures pushes { MatchResult result (λ first. Pushes self.old message first self.new) (λ y. (y ≡ message) × (self.new.queue.items ≡ self.old.queue.items) × (self.new.receivers ≡ self.old.receivers) × Kept self.old self.new) }
-        ensures senders { self.new.senders ≡ self.old.senders }
-    {
-        match self.queue.push_back(message) {
-            Ok(()) => Ok(self.receivers.serve(self.queue.len())),
-            Err(failed) => Err(failed.value),
-        }
-    }
-
-    // Takes the first message. The first task that waits to send is to be woken.
-    fn pop(&mut self) -> Option<(T, Option<Waiter>)>
-        ensures pops { MatchOption result ((self.old.queue.items ≡ []) × Rests self.old self.new) (λ r. Pops self.old r.0 r.1 self.new) }
-        ensures receivers { self.new.receivers ≡ self.old.receivers }
-    {
-        match self.queue.pop_front() {
-            None => None,
-            Some(message) => {
-                let free = self.places();
-                Some((message, self.senders.serve(free)))
-            }
-        }
-    }
-
-    /// Queues a message at once, and returns the task that waited to receive, if any: it is to be woken.
+    /// Queues a message at once.
     ///
     /// Refused with `Closed` if the channel was closed, with `Full` if no place is free, and with `Memory` if the allocation
     /// failed. A refused message comes back.
-    pub fn try_send(&mut self, message: T) -> Result<Option<Waiter>, TrySendError<T>>
-        ensures { TriesToSend self.old message result self.new }
+    pub fn try_send(&mut self, message: T) -> Result<(), TrySendError<T>>
+        ensures answer { TriesToSend self.old message result self.new }
+        ensures keeps { (me : ℕ) → Keeps listed_by me self.old self.new }
     {
         if self.is_closed {
             return Err(TrySendError::Closed(message));
         }
-        if self.senders.granted >= self.places() {
+        let room = self.places();
+        if !self.senders.has_room(room) {
             return Err(TrySendError::Full(message));
         }
-        match self.push(message) {
-            Ok(first) => Ok(first),
-            Err(message) => Err(TrySendError::Memory(message)),
+        match self.queue.push_back(message) {
+            Ok(()) => Ok(()),
+            Err(failed) => Err(TrySendError::Memory(failed.value)),
         }
     }
 
-    /// Takes the first message at once, and returns the task that waited to send, if any: it is to be woken.
+    /// Takes the first message at once.
     ///
-    /// Refused with `Empty` if no message is queued that is not promised, and with `Disconnected` if the channel was
-    /// closed and no message is left.
-    pub fn try_recv(&mut self) -> Result<(T, Option<Waiter>), TryRecvError>
-        ensures { TriesToReceive self.old result self.new }
+    /// Refused with `Empty` if no message is queued that is neither promised nor owed, and with `Disconnected` if the channel
+    /// was closed and no message is left.
+    pub fn try_recv(&mut self) -> Result<T, TryRecvError>
+        ensures answer { TriesToReceive self.old result self.new }
+        ensures keeps { (me : ℕ) → Keeps listed_by me self.old self.new }
     {
-        if !self.is_closed && self.queue.len() <= self.receivers.granted {
+        if self.is_closed {
+            if self.queue.is_empty() {
+                return Err(TryRecvError::Disconnected);
+            }
+        } else if !self.receivers.has_room(self.queue.len()) {
             return Err(TryRecvError::Empty);
         }
-        match self.pop() {
-            Some(received) => Ok(received),
-            None => Err(TryRecvError::Disconnected),
+        let Some(message) = self.queue.pop_front() else {
+            unreachable!()
+        };
+        Ok(message)
+    }
+
+    // Queues a message for a future of this task, or makes the future wait.
+    fn ask_send(&mut self, ticket: Option<u64>, message: T, me: u64) -> Sending<T>
+        ensures { Sends self.old ticket message me result self.new }
+    {
+        if self.is_closed {
+            self.senders.leave(ticket, me);
+            return Sending::Closed(message);
+        }
+        let room = self.places();
+        match self.senders.come(ticket, me, room) {
+            Coming::Waits => Sending::Waits(message),
+            Coming::Free => match self.queue.push_back(message) {
+                Ok(()) => Sending::Sent,
+                Err(failed) => Sending::Memory(failed.value),
+            },
+            Coming::Full => match self.senders.join(me) {
+                Ok(drawn) => Sending::Joined(drawn, message),
+                Err(_) => Sending::Memory(message),
+            },
         }
     }
 
     /// Sends a message for a future of this task, or makes the future wait for the task. The ticket is the one that the
     /// future drew before.
-    pub fn send(&mut self, ticket: Option<u64>, message: T, task: u64) -> Sending<T>
-        ensures { Sends self.old ticket message task result self.new }
+    pub fn send(&mut self, ticket: Option<u64>, message: T, me: u64) -> Sending<T>
+        ensures answer { Sends self.old ticket message me result self.new }
+        ensures keeps { Keeps listed_by me self.old self.new }
+    {
+        self.ask_send(ticket, message, me)
+    }
+
+    // Takes the first message for a future of this task, or makes the future wait.
+    fn ask_recv(&mut self, ticket: Option<u64>, me: u64) -> Receiving<T>
+        ensures { Receives self.old ticket me result self.new }
     {
         if self.is_closed {
-            return Sending::Closed(message);
-        }
-        if self.senders.redeem_for(ticket, task) {
-            return Sending::Waits(message);
-        }
-        if self.senders.granted < self.places() {
-            return match self.push(message) {
-                Ok(first) => Sending::Sent(first),
-                Err(message) => {
-                    let free = self.places();
-                    Sending::Memory(message, self.senders.serve(free))
-                }
+            self.receivers.leave(ticket, me);
+            return match self.queue.pop_front() {
+                Some(message) => Receiving::Received(message),
+                None => Receiving::Closed,
             };
         }
-        match self.senders.join(task) {
-            Ok(drawn) => Sending::Joined(drawn, message),
-            Err(_) => {
-                let free = self.places();
-                Sending::Memory(message, self.senders.serve(free))
-            }
+        match self.receivers.come(ticket, me, self.queue.len()) {
+            Coming::Waits => Receiving::Waits,
+            Coming::Free => match self.queue.pop_front() {
+                Some(message) => Receiving::Received(message),
+                None => unreachable!(),
+            },
+            Coming::Full => match self.receivers.join(me) {
+                Ok(drawn) => Receiving::Joined(drawn),
+                Err(_) => Receiving::Memory,
+            },
         }
     }
 
     /// Receives a message for a future of this task, or makes the future wait for the task. The ticket is the one that
     /// the future drew before.
-    pub fn recv(&mut self, ticket: Option<u64>, task: u64) -> Receiving<T>
-        ensures { Receives self.old ticket task result self.new }
+    pub fn recv(&mut self, ticket: Option<u64>, me: u64) -> Receiving<T>
+        ensures answer { Receives self.old ticket me result self.new }
+        ensures keeps { Keeps listed_by me self.old self.new }
     {
-        if self.is_closed {
-            return match self.pop() {
-                Some((message, first)) => Receiving::Received(message, first),
-                None => Receiving::Closed,
-            };
-        }
-        if self.receivers.redeem_for(ticket, task) {
-            return Receiving::Waits;
-        }
-        if self.receivers.granted < self.queue.len() {
-            return match self.pop() {
-                Some((message, first)) => Receiving::Received(message, first),
-                None => unreachable!(),
-            };
-        }
-        match self.receivers.join(task) {
-            Ok(drawn) => Receiving::Joined(drawn),
-            Err(_) => Receiving::Memory,
-        }
+        self.ask_recv(ticket, me)
     }
 
-    /// Takes a future out of the line of senders. Its reserved place, if any, goes to the task that is returned, which
-    /// is to be woken.
-    pub fn give_up_send(&mut self, ticket: Option<u64>) -> Option<Waiter>
-        ensures { GivesUpSend self.old ticket result self.new }
+    /// Takes a future out of the line of senders, in a turn of this task. Its reserved place, if any, is owed to the first
+    /// task that waits.
+    pub fn give_up_send(&mut self, ticket: Option<u64>, me: u64)
+        ensures answer { GivesUpSend self.old ticket me self.new }
+        ensures keeps { Keeps listed_by me self.old self.new }
     {
-        self.senders.leave(ticket);
-        let free = self.places();
-        self.senders.serve(free)
+        self.senders.leave(ticket, me);
     }
 
-    /// Takes a future out of the line of receivers. Its promised message, if any, goes to the task that is returned,
-    /// which is to be woken.
-    pub fn give_up_recv(&mut self, ticket: Option<u64>) -> Option<Waiter>
-        ensures { GivesUpReceive self.old ticket result self.new }
+    /// Takes a future out of the line of receivers, in a turn of this task. Its promised message, if any, is owed to the
+    /// first task that waits.
+    pub fn give_up_recv(&mut self, ticket: Option<u64>, me: u64)
+        ensures answer { GivesUpReceive self.old ticket me self.new }
+        ensures keeps { Keeps listed_by me self.old self.new }
     {
-        self.receivers.leave(ticket);
-        self.receivers.serve(self.queue.len())
+        self.receivers.leave(ticket, me);
     }
 
-    /// Closes the channel, and returns the tasks that wait to send and those that wait to receive: all are to be woken.
-    ///
-    /// The queued messages can still be received.
-    pub fn close(&mut self, alloc: Global) -> (VecDeque<Waiter>, VecDeque<Waiter>)
-        ensures { Closes self.old result.0.items result.1.items self.new }
+    /// Closes the channel: all tasks that wait are to be woken. The queued messages can still be received.
+    pub fn close(&mut self)
+        ensures answer { Closes self.old self.new }
+        ensures keeps { (me : ℕ) → Keeps listed_by me self.old self.new }
     {
         self.is_closed = true;
-        (self.senders.take_all(alloc), self.receivers.take_all(alloc))
     }
 }

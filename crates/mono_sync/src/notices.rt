@@ -1,24 +1,26 @@
 // A notice as a plain value.
-ghost use Rattle.std.specs.Prelude.{◌≡◌, [], false};
+ghost use Rattle.std.specs.Prelude.{◌≡◌, [], ℕ};
+ghost use Rattle.std.specs.declared.option.Option.TheVariants.{None, Some};
 ghost use Rattle.mono_sync.specs.Runs.{Leads, leads_itself, leads_on};
 ghost use Rattle.mono_sync.specs.NoticeRuns.{Step};
-ghost use Rattle.mono_sync.specs.Notices.{NotifiesOne, NotifiesAll, Awaits, GivesUp};
+ghost use Rattle.mono_sync.specs.Notices.{owed_by, listed_by, waiting_in, most, NotifiesOne, NotifiesAll, Awaits, GivesUp, Pays, PaysOne};
 ghost use Rattle.mono_sync.specs.Lines.{has_task};
+ghost use Rattle.mono_sync.specs.Listed.{notice_some};
+ghost use Rattle.mono_task.specs.Owed.{Keeps};
 
-use crate::lines::{Line, Waiter};
+use crate::lines::{Coming, Line, Waiter};
 use mono_task::SharedState;
 use std::alloc::Global;
-use std::collections::VecDeque;
 
 /// A notice to one or to all of the tasks that wait for it, first come, first served.
 ///
 /// A notice to one is kept for the next future that asks if no task waits. At most one is kept.
 #[derive(Drop)]
 pub struct Notify {
-    // Whether a notice is kept.
-    pub(crate) is_notified: bool,
+    // How many notices to one no task has got. If no task waits, one of them is kept, and no more.
+    pub(crate) pending: usize,
     pub(crate) line: Line,
-    // Tickets below this one left the line before or at the last notice to all.
+    // Tickets below this one were drawn before the last notice to all.
     pub(crate) cleared: u64,
 }
 
@@ -35,70 +37,113 @@ pub enum Notifying {
     Waits,
 }
 
-/// Calls alone lead one notice to another.
+/// A notice owes a wake to each task that waited at the last notice to all, and to one for each notice to one.
 impl SharedState for Notify {
     ghost leads = { Leads Step };
 
-    ghost lists = { λ a. has_task a.line };
+    ghost names = { λ a. has_task a.line };
+
+    ghost lists = { listed_by };
+
+    ghost waiting = { waiting_in };
+
+    ghost owes = { owed_by };
+
+    fn next_owed(&mut self) -> Option<u64> {
+        match self.pay() {
+            None => None,
+            Some(first) => Some(first.task),
+        }
+    }
 
     ghost leads_itself = { leads_itself Step };
 
     ghost leads_on = { leads_on Step };
+
+    ghost lists_some = { notice_some };
 }
 
 impl Notify {
     /// Returns a notice that was not given and for which no task waits.
     pub fn new(alloc: Global) -> Notify
         ensures waiters { result.line.waiters.items ≡ [] }
-        ensures kept { result.is_notified ≡ false }
+        ensures granted { result.line.granted ≡ 0 }
+        ensures kept { result.pending ≡ 0 }
         ensures tickets { (result.line.next ≡ 0) × (result.cleared ≡ 0) }
     {
         Notify {
-            is_notified: false,
+            pending: 0,
             line: Line::new(alloc),
             cleared: 0,
         }
     }
 
-    /// Notifies the first task that waits, and returns it: it is to be woken. If no task waits, the notice is kept.
-    pub fn notify_one(&mut self) -> Option<Waiter>
-        ensures { NotifiesOne self.old result self.new }
+    // Returns how many notices there may be.
+    fn most(&self) -> usize
+        ensures { result ≡ most self.now }
     {
-        match self.line.pop() {
-            Some(first) => Some(first),
-            None => {
-                self.is_notified = true;
-                None
-            }
+        let waiting = self.line.waiters.len();
+        if waiting == 0 {
+            return 1;
+        }
+        waiting
+    }
+
+    // Gives one notice more, if there may be one more.
+    fn give(&mut self)
+        ensures { NotifiesOne self.old self.new }
+    {
+        if self.pending < self.most() {
+            self.pending += 1;
         }
     }
 
-    /// Notifies all tasks that wait, and returns them: they are to be woken. No notice is kept for a future that asks
-    /// later.
-    pub fn notify_waiters(&mut self, alloc: Global) -> VecDeque<Waiter>
-        ensures { NotifiesAll self.old result.items self.new }
+    /// Notifies the first task that waits and has no notice: it is to be woken. If no task waits, the notice is kept.
+    pub fn notify_one(&mut self)
+        ensures answer { NotifiesOne self.old self.new }
+        ensures keeps { (me : ℕ) → Keeps listed_by me self.old self.new }
     {
-        self.cleared = self.line.next;
-        self.line.take_all(alloc)
+        self.give()
     }
 
-    /// Answers a future of this task, or makes it wait. The ticket is the one that the future drew before.
-    pub fn notified(&mut self, ticket: Option<u64>, task: u64) -> Notifying
-        ensures { Awaits self.old ticket task result self.new }
+    /// Notifies all tasks that wait: they are to be woken. No notice is kept for a future that asks later.
+    pub fn notify_waiters(&mut self)
+        ensures answer { NotifiesAll self.old self.new }
+        ensures keeps { (me : ℕ) → Keeps listed_by me self.old self.new }
     {
-        match ticket {
-            Some(ticket) => {
-                if self.line.still_in(Some(ticket), task) {
-                    return Notifying::Waits;
-                }
-                Notifying::Notified
-            }
-            None => {
-                if self.is_notified {
-                    self.is_notified = false;
+        self.cleared = self.line.next;
+        if self.line.waiters.len() == 0 {
+            return;
+        }
+        self.pending = 0;
+    }
+
+    // Answers a future of this task that drew no ticket.
+    fn ask_first(&mut self, me: u64) -> Notifying
+        ensures { Awaits self.old None me result self.new }
+    {
+        if self.pending > 0 && self.line.has_room(1) {
+            self.pending = 0;
+            return Notifying::Notified;
+        }
+        match self.line.join(me) {
+            Ok(drawn) => Notifying::Joined(drawn),
+            Err(_) => Notifying::Memory,
+        }
+    }
+
+    // Answers a future of this task that drew this ticket.
+    fn ask_again(&mut self, ticket: u64, me: u64) -> Notifying
+        ensures { Awaits self.old (Some ticket) me result self.new }
+    {
+        match self.line.come(Some(ticket), me, 1) {
+            Coming::Waits => Notifying::Waits,
+            Coming::Free => Notifying::Notified,
+            Coming::Full => {
+                if ticket < self.cleared {
                     return Notifying::Notified;
                 }
-                match self.line.join(task) {
+                match self.line.join(me) {
                     Ok(drawn) => Notifying::Joined(drawn),
                     Err(_) => Notifying::Memory,
                 }
@@ -106,23 +151,75 @@ impl Notify {
         }
     }
 
-    /// Takes a future out of the line. If it was notified by `notify_one`, the notice goes to the task that is
-    /// returned, which is to be woken, or is kept. A future that waited at the last `notify_waiters` passes nothing on.
-    pub fn give_up(&mut self, ticket: Option<u64>) -> Option<Waiter>
-        ensures { GivesUp self.old ticket result self.new }
+    // Answers a future of this task, or makes it wait.
+    fn ask(&mut self, ticket: Option<u64>, me: u64) -> Notifying
+        ensures { Awaits self.old ticket me result self.new }
     {
         match ticket {
+            None => self.ask_first(me),
+            Some(ticket) => self.ask_again(ticket, me),
+        }
+    }
+
+    /// Answers a future of this task, or makes it wait. The ticket is the one that the future drew before.
+    pub fn notified(&mut self, ticket: Option<u64>, me: u64) -> Notifying
+        ensures answer { Awaits self.old ticket me result self.new }
+        ensures keeps { Keeps listed_by me self.old self.new }
+    {
+        self.ask(ticket, me)
+    }
+
+    // Takes a future out of the line, or passes its notice on.
+    fn drop_out(&mut self, ticket: Option<u64>, me: u64)
+        ensures { GivesUp self.old ticket me self.new }
+    {
+        if let Some(ticket) = ticket {
+            if let Some(_) = self.line.holder_of(ticket) {
+                self.line.leave(Some(ticket), me);
+                return;
+            }
+            if ticket < self.cleared {
+                return;
+            }
+            self.give();
+        }
+    }
+
+    /// Takes a future out of the line, in a turn of this task. If it was notified by `notify_one`, the notice goes to the
+    /// first task that waits, or is kept. A future that waited at the last `notify_waiters` passes nothing on.
+    pub fn give_up(&mut self, ticket: Option<u64>, me: u64)
+        ensures answer { GivesUp self.old ticket me self.new }
+        ensures keeps { Keeps listed_by me self.old self.new }
+    {
+        self.drop_out(ticket, me)
+    }
+
+    // Takes the first task out of the line for a notice to one, if there is one.
+    fn pay_one(&mut self) -> Option<Waiter>
+        ensures pays { PaysOne self.old result self.new }
+        ensures cleared { self.new.cleared ≡ self.old.cleared }
+    {
+        if self.pending == 0 {
+            return None;
+        }
+        match self.line.pop() {
             None => None,
-            Some(drawn) => {
-                if self.line.has(drawn) {
-                    self.line.leave(Some(drawn));
-                    return None;
+            Some(first) => {
+                if !first.has_left {
+                    self.pending -= 1;
                 }
-                if drawn < self.cleared {
-                    return None;
-                }
-                self.notify_one()
+                Some(first)
             }
         }
+    }
+
+    // Takes the first task out of the line, if it waited at the last notice to all, or there is a notice to one.
+    fn pay(&mut self) -> Option<Waiter>
+        ensures { Pays self.old result self.new }
+    {
+        if self.line.starts_below(self.cleared) {
+            return self.line.pop();
+        }
+        self.pay_one()
     }
 }

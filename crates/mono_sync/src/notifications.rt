@@ -1,18 +1,16 @@
 // The calls of a task on a notice: it waits, and notifies.
-ghost use Rattle.std.specs.Prelude.{◌≡◌, true, false};
+ghost use Rattle.std.specs.Prelude.{◌≡◌, true, false, ℕ};
 ghost use Rattle.std.specs.declared.option.Option.TheVariants.{None};
 ghost use Rattle.mono_model.specs.Poll.{OnReady};
 ghost use Rattle.mono_sync.specs.Notices.{NotifiesOne, NotifiesAll, Awaits, GivesUp};
-ghost use Rattle.mono_sync.specs.Notifications.{NotifiedPolls, NotifiedCancels, OneWakes, AllWakes};
+ghost use Rattle.mono_sync.specs.Notifications.{NotifiedPolls, NotifiedCancels};
+ghost use Rattle.mono_task.specs.Owed.{Keeps};
 
-use crate::lines::Waiter;
 use crate::notices::{Notify, Notifying};
 use crate::parts::Holds;
-use crate::wakes::{wake_all, wake_first};
 use mono_model::{Host, Poll};
 use mono_task::{SharedContext, TaskFuture};
 use std::alloc::{AllocError, Global};
-use std::collections::VecDeque;
 use std::marker::PhantomData;
 
 /// A future that waits for a notice that the tasks share.
@@ -38,35 +36,39 @@ impl<W> Notified<W> {
 }
 
 // Asks the notice for a future of this task.
-fn ask_part<W: Holds<Notify>>(whole: &mut W, ticket: Option<u64>, task: u64) -> Notifying
-    ensures answer { Awaits (W.part whole.old) ticket task result (W.part whole.new) }
+fn ask_part<W: Holds<Notify>>(whole: &mut W, ticket: Option<u64>, me: u64) -> Notifying
+    ensures answer { Awaits (W.part whole.old) ticket me result (W.part whole.new) }
     ensures leads { W.leads whole.old whole.new }
+    ensures keeps { Keeps W.lists me whole.old whole.new }
 {
-    whole.part_mut().notified(ticket, task)
+    whole.part_mut().notified(ticket, me)
 }
 
 // Takes a future out of the line.
-fn leave_part<W: Holds<Notify>>(whole: &mut W, ticket: Option<u64>) -> Option<Waiter>
-    ensures answer { GivesUp (W.part whole.old) ticket result (W.part whole.new) }
+fn leave_part<W: Holds<Notify>>(whole: &mut W, ticket: Option<u64>, me: u64)
+    ensures answer { GivesUp (W.part whole.old) ticket me (W.part whole.new) }
     ensures leads { W.leads whole.old whole.new }
+    ensures keeps { Keeps W.lists me whole.old whole.new }
 {
-    whole.part_mut().give_up(ticket)
+    whole.part_mut().give_up(ticket, me)
 }
 
-// Notifies the first task that waits.
-fn one_part<W: Holds<Notify>>(whole: &mut W) -> Option<Waiter>
-    ensures answer { NotifiesOne (W.part whole.old) result (W.part whole.new) }
+// Notifies one task.
+fn one_part<W: Holds<Notify>>(whole: &mut W)
+    ensures answer { NotifiesOne (W.part whole.old) (W.part whole.new) }
     ensures leads { W.leads whole.old whole.new }
+    ensures keeps { (me : ℕ) → Keeps W.lists me whole.old whole.new }
 {
     whole.part_mut().notify_one()
 }
 
 // Notifies all tasks that wait.
-fn all_part<W: Holds<Notify>>(whole: &mut W, alloc: Global) -> VecDeque<Waiter>
-    ensures answer { NotifiesAll (W.part whole.old) result.items (W.part whole.new) }
+fn all_part<W: Holds<Notify>>(whole: &mut W)
+    ensures answer { NotifiesAll (W.part whole.old) (W.part whole.new) }
     ensures leads { W.leads whole.old whole.new }
+    ensures keeps { (me : ℕ) → Keeps W.lists me whole.old whole.new }
 {
-    whole.part_mut().notify_waiters(alloc)
+    whole.part_mut().notify_waiters()
 }
 
 // Asks the notice for the running task's future.
@@ -80,48 +82,32 @@ fn ask<W: Holds<Notify>, C: SharedContext<W>>(cx: &mut C, ticket: Option<u64>) -
 }
 
 // Takes the running task's future out of the line.
-fn leave<W: Holds<Notify>, C: SharedContext<W>>(cx: &mut C, ticket: Option<u64>) -> Option<Waiter>
-    ensures answer { GivesUp (W.part (C.shared cx.old)) ticket result (W.part (C.shared cx.new)) }
+fn leave<W: Holds<Notify>, C: SharedContext<W>>(cx: &mut C, ticket: Option<u64>)
+    ensures answer { GivesUp (W.part (C.shared cx.old)) ticket (C.number cx.old) (W.part (C.shared cx.new)) }
     ensures work { C.work cx.new ≡ C.work cx.old }
     ensures reached { C.reaches cx.old cx.new }
 {
-    leave_part(cx.shared_mut(), ticket)
+    let me = cx.me();
+    leave_part(cx.shared_mut(), ticket, me)
 }
 
-// Notifies the first task that waits, for the running task.
-fn one<W: Holds<Notify>, C: SharedContext<W>>(cx: &mut C) -> Option<Waiter>
-    ensures answer { NotifiesOne (W.part (C.shared cx.old)) result (W.part (C.shared cx.new)) }
+/// Notifies the first task that waits and has no notice, which the runtime wakes after the turn. If no task waits, the
+/// notice is kept.
+pub fn notify_one<W: Holds<Notify>, C: SharedContext<W>>(cx: &mut C)
+    ensures answer { NotifiesOne (W.part (C.shared cx.old)) (W.part (C.shared cx.new)) }
     ensures work { C.work cx.new ≡ C.work cx.old }
     ensures reached { C.reaches cx.old cx.new }
 {
     one_part(cx.shared_mut())
 }
 
-// Notifies all tasks that wait, for the running task.
-fn all<W: Holds<Notify>, C: SharedContext<W>>(cx: &mut C, alloc: Global) -> VecDeque<Waiter>
-    ensures answer { NotifiesAll (W.part (C.shared cx.old)) result.items (W.part (C.shared cx.new)) }
+/// Notifies all tasks that wait, which the runtime wakes after the turn. No notice is kept for a future that asks later.
+pub fn notify_waiters<W: Holds<Notify>, C: SharedContext<W>>(cx: &mut C)
+    ensures answer { NotifiesAll (W.part (C.shared cx.old)) (W.part (C.shared cx.new)) }
     ensures work { C.work cx.new ≡ C.work cx.old }
     ensures reached { C.reaches cx.old cx.new }
 {
-    all_part(cx.shared_mut(), alloc)
-}
-
-/// Notifies the first task that waits, and wakes it. If no task waits, the notice is kept.
-pub fn notify_one<W: Holds<Notify>, C: SharedContext<W>>(cx: &mut C)
-    ensures wakes { OneWakes (λ x. W.part (C.shared x)) C.number C.work cx.old cx.new }
-    ensures reached { C.reaches cx.old cx.new }
-{
-    let first = one::<W, C>(cx);
-    wake_first::<W, C>(cx, first);
-}
-
-/// Notifies all tasks that wait, and wakes them. No notice is kept for a future that asks later.
-pub fn notify_waiters<W: Holds<Notify>, C: SharedContext<W>>(alloc: Global, cx: &mut C)
-    ensures wakes { AllWakes (λ x. W.part (C.shared x)) C.number C.work cx.old cx.new }
-    ensures reached { C.reaches cx.old cx.new }
-{
-    let woken = all::<W, C>(cx, alloc);
-    wake_all::<W, C>(cx, woken);
+    all_part(cx.shared_mut())
 }
 
 /// The future answers once it was notified. It fails if out of memory.
@@ -164,7 +150,6 @@ impl<W: Holds<Notify>, C: SharedContext<W>> TaskFuture<C> for Notified<W> {
     }
 
     fn cancel(self, cx: &mut C) {
-        let first = leave::<W, C>(cx, self.ticket);
-        wake_first::<W, C>(cx, first);
+        leave::<W, C>(cx, self.ticket)
     }
 }

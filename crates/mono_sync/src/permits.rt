@@ -1,18 +1,16 @@
 // The calls of a task on a semaphore: it acquires and releases.
-ghost use Rattle.std.specs.Prelude.{◌≡◌, true, false};
+ghost use Rattle.std.specs.Prelude.{◌≡◌, true, false, ℕ};
 ghost use Rattle.std.specs.declared.option.Option.TheVariants.{None};
 ghost use Rattle.mono_model.specs.Poll.{OnReady};
 ghost use Rattle.mono_sync.specs.Semaphores.{TriesToAcquire, Acquires, Releases, GivesUp, Closes};
-ghost use Rattle.mono_sync.specs.Permits.{AcquirePolls, AcquireCancels, ReleaseWakes, CloseWakes};
+ghost use Rattle.mono_sync.specs.Permits.{AcquirePolls, AcquireCancels};
+ghost use Rattle.mono_task.specs.Owed.{Keeps};
 
-use crate::lines::Waiter;
 use crate::parts::Holds;
 use crate::semaphores::{Acquiring, Semaphore, TooManyPermits, TryAcquireError};
-use crate::wakes::{wake_all, wake_first};
 use mono_model::{Host, Poll};
 use mono_task::{SharedContext, TaskFuture};
 use std::alloc::Global;
-use std::collections::VecDeque;
 use std::marker::PhantomData;
 
 /// A future that acquires a permit of the tasks' semaphore, and waits for one if none is free.
@@ -47,19 +45,48 @@ impl<W> Acquire<W> {
 }
 
 // Asks the semaphore for a future of this task.
-fn ask_part<W: Holds<Semaphore>>(whole: &mut W, ticket: Option<u64>, task: u64) -> Acquiring
-    ensures answer { Acquires (W.part whole.old) ticket task result (W.part whole.new) }
+fn ask_part<W: Holds<Semaphore>>(whole: &mut W, ticket: Option<u64>, me: u64) -> Acquiring
+    ensures answer { Acquires (W.part whole.old) ticket me result (W.part whole.new) }
     ensures leads { W.leads whole.old whole.new }
+    ensures keeps { Keeps W.lists me whole.old whole.new }
 {
-    whole.part_mut().acquire(ticket, task)
+    whole.part_mut().acquire(ticket, me)
 }
 
 // Takes a future out of the line.
-fn leave_part<W: Holds<Semaphore>>(whole: &mut W, ticket: Option<u64>) -> Option<Waiter>
-    ensures answer { GivesUp (W.part whole.old) ticket result (W.part whole.new) }
+fn leave_part<W: Holds<Semaphore>>(whole: &mut W, ticket: Option<u64>, me: u64)
+    ensures answer { GivesUp (W.part whole.old) ticket me (W.part whole.new) }
     ensures leads { W.leads whole.old whole.new }
+    ensures keeps { Keeps W.lists me whole.old whole.new }
 {
-    whole.part_mut().give_up(ticket)
+    whole.part_mut().give_up(ticket, me)
+}
+
+// Takes a permit at once.
+fn try_part<W: Holds<Semaphore>>(whole: &mut W) -> Result<(), TryAcquireError>
+    ensures answer { TriesToAcquire (W.part whole.old) result (W.part whole.new) }
+    ensures leads { W.leads whole.old whole.new }
+    ensures keeps { (me : ℕ) → Keeps W.lists me whole.old whole.new }
+{
+    whole.part_mut().try_acquire()
+}
+
+// Puts a permit back.
+fn release_part<W: Holds<Semaphore>>(whole: &mut W) -> Result<(), TooManyPermits>
+    ensures answer { Releases (W.part whole.old) result (W.part whole.new) }
+    ensures leads { W.leads whole.old whole.new }
+    ensures keeps { (me : ℕ) → Keeps W.lists me whole.old whole.new }
+{
+    whole.part_mut().release()
+}
+
+// Closes the semaphore.
+fn close_part<W: Holds<Semaphore>>(whole: &mut W)
+    ensures answer { Closes (W.part whole.old) (W.part whole.new) }
+    ensures leads { W.leads whole.old whole.new }
+    ensures keeps { (me : ℕ) → Keeps W.lists me whole.old whole.new }
+{
+    whole.part_mut().close()
 }
 
 // Asks the semaphore for the running task's future.
@@ -73,59 +100,13 @@ fn ask<W: Holds<Semaphore>, C: SharedContext<W>>(cx: &mut C, ticket: Option<u64>
 }
 
 // Takes the running task's future out of the line.
-fn leave<W: Holds<Semaphore>, C: SharedContext<W>>(
-    cx: &mut C,
-    ticket: Option<u64>,
-) -> Option<Waiter>
-    ensures answer { GivesUp (W.part (C.shared cx.old)) ticket result (W.part (C.shared cx.new)) }
+fn leave<W: Holds<Semaphore>, C: SharedContext<W>>(cx: &mut C, ticket: Option<u64>)
+    ensures answer { GivesUp (W.part (C.shared cx.old)) ticket (C.number cx.old) (W.part (C.shared cx.new)) }
     ensures work { C.work cx.new ≡ C.work cx.old }
     ensures reached { C.reaches cx.old cx.new }
 {
-    leave_part(cx.shared_mut(), ticket)
-}
-
-// Takes a permit at once.
-fn try_part<W: Holds<Semaphore>>(whole: &mut W) -> Result<(), TryAcquireError>
-    ensures answer { TriesToAcquire (W.part whole.old) result (W.part whole.new) }
-    ensures leads { W.leads whole.old whole.new }
-{
-    whole.part_mut().try_acquire()
-}
-
-// Puts a permit back.
-fn release_part<W: Holds<Semaphore>>(whole: &mut W) -> Result<Option<Waiter>, TooManyPermits>
-    ensures answer { Releases (W.part whole.old) result (W.part whole.new) }
-    ensures leads { W.leads whole.old whole.new }
-{
-    whole.part_mut().release()
-}
-
-// Closes the semaphore.
-fn close_part<W: Holds<Semaphore>>(whole: &mut W, alloc: Global) -> VecDeque<Waiter>
-    ensures answer { Closes (W.part whole.old) result.items (W.part whole.new) }
-    ensures leads { W.leads whole.old whole.new }
-{
-    whole.part_mut().close(alloc)
-}
-
-// Puts a permit back for the running task.
-fn put_back<W: Holds<Semaphore>, C: SharedContext<W>>(
-    cx: &mut C,
-) -> Result<Option<Waiter>, TooManyPermits>
-    ensures answer { Releases (W.part (C.shared cx.old)) result (W.part (C.shared cx.new)) }
-    ensures work { C.work cx.new ≡ C.work cx.old }
-    ensures reached { C.reaches cx.old cx.new }
-{
-    release_part(cx.shared_mut())
-}
-
-// Closes the semaphore for the running task.
-fn shut<W: Holds<Semaphore>, C: SharedContext<W>>(cx: &mut C, alloc: Global) -> VecDeque<Waiter>
-    ensures answer { Closes (W.part (C.shared cx.old)) result.items (W.part (C.shared cx.new)) }
-    ensures work { C.work cx.new ≡ C.work cx.old }
-    ensures reached { C.reaches cx.old cx.new }
-{
-    close_part(cx.shared_mut(), alloc)
+    let me = cx.me();
+    leave_part(cx.shared_mut(), ticket, me)
 }
 
 /// Takes a permit at once. Refused with `Closed` if the semaphore was closed, and with `NoPermits` if no permit is free.
@@ -139,29 +120,24 @@ pub fn try_acquire<W: Holds<Semaphore>, C: SharedContext<W>>(
     try_part(cx.shared_mut())
 }
 
-/// Releases a permit, and wakes the first task that waits for one: the permit is reserved for it.
+/// Releases a permit. It is owed to the first task that waits for one, which the runtime wakes after the turn.
 ///
 /// Refused if the permits are at their maximum.
 pub fn release<W: Holds<Semaphore>, C: SharedContext<W>>(cx: &mut C) -> Result<(), TooManyPermits>
-    ensures wakes { ReleaseWakes (λ x. W.part (C.shared x)) C.number C.work cx.old result cx.new }
+    ensures answer { Releases (W.part (C.shared cx.old)) result (W.part (C.shared cx.new)) }
+    ensures work { C.work cx.new ≡ C.work cx.old }
     ensures reached { C.reaches cx.old cx.new }
 {
-    match put_back::<W, C>(cx) {
-        Ok(first) => {
-            wake_first::<W, C>(cx, first);
-            Ok(())
-        }
-        Err(error) => Err(error),
-    }
+    release_part(cx.shared_mut())
 }
 
-/// Closes the semaphore, and wakes all tasks that wait for a permit. No task gets one from now on.
-pub fn close<W: Holds<Semaphore>, C: SharedContext<W>>(alloc: Global, cx: &mut C)
-    ensures wakes { CloseWakes (λ x. W.part (C.shared x)) C.number C.work cx.old cx.new }
+/// Closes the semaphore. The runtime wakes all tasks that wait for a permit after the turn. No task gets one from now on.
+pub fn close<W: Holds<Semaphore>, C: SharedContext<W>>(cx: &mut C)
+    ensures answer { Closes (W.part (C.shared cx.old)) (W.part (C.shared cx.new)) }
+    ensures work { C.work cx.new ≡ C.work cx.old }
     ensures reached { C.reaches cx.old cx.new }
 {
-    let woken = shut::<W, C>(cx, alloc);
-    wake_all::<W, C>(cx, woken);
+    close_part(cx.shared_mut())
 }
 
 /// The future answers once it has a permit. It fails if the semaphore was closed, or if out of memory.
@@ -209,7 +185,6 @@ impl<W: Holds<Semaphore>, C: SharedContext<W>> TaskFuture<C> for Acquire<W> {
     }
 
     fn cancel(self, cx: &mut C) {
-        let first = leave::<W, C>(cx, self.ticket);
-        wake_first::<W, C>(cx, first);
+        leave::<W, C>(cx, self.ticket)
     }
 }

@@ -1,21 +1,21 @@
 // A semaphore as a plain value.
-ghost use Rattle.std.specs.Prelude.{◌≡◌, ◌-◌, [], false};
+ghost use Rattle.std.specs.Prelude.{◌≡◌, ◌-◌, ◌+◌, [], false, ℕ, length};
 ghost use Rattle.mono_sync.specs.SemaphoreRuns.{Leads, leads_itself, leads_on};
-ghost use Rattle.mono_sync.specs.Semaphores.{TriesToAcquire, Acquires, Releases, GivesUp, Closes};
+ghost use Rattle.mono_sync.specs.Semaphores.{owed_by, listed_by, waiting_in, TriesToAcquire, Acquires, Releases, GivesUp, Closes, Pays};
 ghost use Rattle.mono_sync.specs.Lines.{has_task};
+ghost use Rattle.mono_sync.specs.Listed.{semaphore_some};
+ghost use Rattle.mono_task.specs.Owed.{Keeps};
 
-use crate::lines::{Line, Waiter};
+use crate::lines::{Coming, Line, Waiter};
 use mono_task::SharedState;
 use std::alloc::Global;
-use std::collections::VecDeque;
 
 /// The greatest number of permits that a semaphore may have.
 pub const MAX_PERMITS: usize = 2305843009213693951;
 
 /// Permits, and the tasks that wait for one, first come, first served.
 ///
-/// A permit that is released while tasks wait is reserved for the first of them. So no task that asks later overtakes
-/// it.
+/// A permit that is released while tasks wait is owed to the first of them. So no task that asks later overtakes it.
 #[derive(Drop)]
 pub struct Semaphore {
     // The permits that no task holds, with those that are reserved for tasks that were served.
@@ -29,7 +29,7 @@ pub struct Semaphore {
 pub enum TryAcquireError {
     /// The semaphore was closed.
     Closed,
-    /// Each permit is held, or reserved for a task that waited.
+    /// Each permit is held, or owed to a task that waits, or reserved for one that was served.
     NoPermits,
 }
 
@@ -52,15 +52,30 @@ pub enum Acquiring {
     Waits,
 }
 
-/// Calls alone lead one semaphore to another.
+/// A semaphore owes a wake to each waiting task for which a permit is free, and to all once it was closed.
 impl SharedState for Semaphore {
     ghost leads = { Leads };
 
-    ghost lists = { λ a. has_task a.line };
+    ghost names = { λ a. has_task a.line };
+
+    ghost lists = { listed_by };
+
+    ghost waiting = { waiting_in };
+
+    ghost owes = { owed_by };
+
+    fn next_owed(&mut self) -> Option<u64> {
+        match self.pay() {
+            None => None,
+            Some(first) => Some(first.task),
+        }
+    }
 
     ghost leads_itself = { leads_itself };
 
     ghost leads_on = { leads_on };
+
+    ghost lists_some = { semaphore_some };
 }
 
 impl Semaphore {
@@ -79,11 +94,13 @@ impl Semaphore {
         }
     }
 
-    /// Returns how many permits are neither held nor reserved.
+    /// Returns how many permits are neither held, nor reserved, nor owed to a task that waits.
     pub fn available_permits(&self) -> usize
-        ensures { result ≡ self.now.available - self.now.line.granted }
+        ensures { result ≡ self.now.available - (self.now.line.granted + length self.now.line.waiters.items) }
     {
-        self.available.saturating_sub(self.line.granted)
+        self.available
+            .saturating_sub(self.line.granted)
+            .saturating_sub(self.line.waiters.len())
     }
 
     /// Returns whether the semaphore was closed.
@@ -95,66 +112,84 @@ impl Semaphore {
 
     /// Takes a permit at once. Refused with `Closed` if the semaphore was closed, and with `NoPermits` if no permit is free.
     pub fn try_acquire(&mut self) -> Result<(), TryAcquireError>
-        ensures { TriesToAcquire self.old result self.new }
+        ensures answer { TriesToAcquire self.old result self.new }
+        ensures keeps { (me : ℕ) → Keeps listed_by me self.old self.new }
     {
         if self.is_closed {
             return Err(TryAcquireError::Closed);
         }
-        if self.line.granted >= self.available {
+        if self.available_permits() == 0 {
             return Err(TryAcquireError::NoPermits);
         }
         self.available -= 1;
         Ok(())
     }
 
-    /// Takes a permit for a future of this task, or makes the future wait. The ticket is the one that the future drew
-    /// before.
-    pub fn acquire(&mut self, ticket: Option<u64>, task: u64) -> Acquiring
-        ensures { Acquires self.old ticket task result self.new }
+    // Takes a permit for a future of this task, or makes it wait.
+    fn ask(&mut self, ticket: Option<u64>, me: u64) -> Acquiring
+        ensures { Acquires self.old ticket me result self.new }
     {
-        if self.line.redeem_for(ticket, task) {
-            return Acquiring::Waits;
-        }
         if self.is_closed {
+            self.line.leave(ticket, me);
             return Acquiring::Closed;
         }
-        if self.line.granted < self.available {
-            self.available -= 1;
-            return Acquiring::Acquired;
-        }
-        match self.line.join(task) {
-            Ok(drawn) => Acquiring::Joined(drawn),
-            Err(_) => Acquiring::Memory,
+        match self.line.come(ticket, me, self.available) {
+            Coming::Waits => Acquiring::Waits,
+            Coming::Free => {
+                self.available -= 1;
+                Acquiring::Acquired
+            }
+            Coming::Full => match self.line.join(me) {
+                Ok(drawn) => Acquiring::Joined(drawn),
+                Err(_) => Acquiring::Memory,
+            },
         }
     }
 
-    /// Releases a permit, and returns the first task that waits: the permit is reserved for it, and it is to be woken.
+    /// Takes a permit for a future of this task, or makes the future wait. The ticket is the one that the future drew
+    /// before.
+    pub fn acquire(&mut self, ticket: Option<u64>, me: u64) -> Acquiring
+        ensures answer { Acquires self.old ticket me result self.new }
+        ensures keeps { Keeps listed_by me self.old self.new }
+    {
+        self.ask(ticket, me)
+    }
+
+    /// Releases a permit. If tasks wait, it is owed to the first of them.
     ///
     /// Refused if the permits are at their maximum.
-    pub fn release(&mut self) -> Result<Option<Waiter>, TooManyPermits>
-        ensures { Releases self.old result self.new }
+    pub fn release(&mut self) -> Result<(), TooManyPermits>
+        ensures answer { Releases self.old result self.new }
+        ensures keeps { (me : ℕ) → Keeps listed_by me self.old self.new }
     {
         if self.available >= MAX_PERMITS {
             return Err(TooManyPermits);
         }
         self.available += 1;
-        Ok(self.line.serve(self.available))
+        Ok(())
     }
 
-    /// Takes a future out of the line. Its reserved permit, if any, goes to the task that is returned, which is to be
-    /// woken.
-    pub fn give_up(&mut self, ticket: Option<u64>) -> Option<Waiter>
-        ensures { GivesUp self.old ticket result self.new }
+    /// Takes a future out of the line, in a turn of this task. Its permit, if it was served, is owed to the first task that
+    /// waits.
+    pub fn give_up(&mut self, ticket: Option<u64>, me: u64)
+        ensures answer { GivesUp self.old ticket me self.new }
+        ensures keeps { Keeps listed_by me self.old self.new }
     {
-        self.line.leave(ticket);
-        self.line.serve(self.available)
+        self.line.leave(ticket, me);
     }
 
-    /// Closes the semaphore, and returns all tasks that wait: they are to be woken. No task gets a permit from now on.
-    pub fn close(&mut self, alloc: Global) -> VecDeque<Waiter>
-        ensures { Closes self.old result.items self.new }
+    /// Closes the semaphore: all tasks that wait are to be woken. No task gets a permit from now on.
+    pub fn close(&mut self)
+        ensures answer { Closes self.old self.new }
+        ensures keeps { (me : ℕ) → Keeps listed_by me self.old self.new }
     {
         self.is_closed = true;
-        self.line.take_all(alloc)
+    }
+
+    // Takes the first task out of the line, if a permit is free for it or the semaphore was closed.
+    fn pay(&mut self) -> Option<Waiter>
+        ensures { Pays self.old result self.new }
+    {
+        self.line.take(self.is_closed, self.available)
     }
 }

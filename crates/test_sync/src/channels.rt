@@ -1,5 +1,5 @@
 // A bounded channel: each test is a table of calls with the answers that they must have.
-use mono_sync::Waiter;
+use mono_rt::SharedState;
 use mono_sync::mpsc::{Channel, Receiving, Sending, TryRecvError, TrySendError};
 use std::alloc::Global;
 use std::process::Abort;
@@ -33,30 +33,24 @@ enum Call {
     Waits(Option<u64>, u64),
     /// It finds the channel closed, and no message left.
     Ends(Option<u64>, u64),
-    /// A sender leaves its line, and this task is woken, if any.
-    LeavesSenders(Option<u64>, Option<u64>),
-    /// A receiver leaves its line, and this task is woken, if any.
-    LeavesReceivers(Option<u64>, Option<u64>),
-    /// It is closed: the first sender and the first receiver that are woken.
+    /// A task's future leaves the line of senders, and the last task is woken, if any.
+    LeavesSenders(Option<u64>, u64, Option<u64>),
+    /// A task's future leaves the line of receivers, and the last task is woken, if any.
+    LeavesReceivers(Option<u64>, u64, Option<u64>),
+    /// It is closed: the first two tasks that are woken.
     Closes(Option<u64>, Option<u64>),
+    /// This task is woken next, if any.
+    Wakes(Option<u64>),
     /// This many messages are queued.
     Has(usize),
 }
 
-fn task(waiter: Option<Waiter>) -> Option<u64> {
-    match waiter {
-        None => None,
-        Some(waiter) => Some(waiter.task()),
-    }
-}
-
 /// Makes one call that does not wait, and returns whether it has this answer.
-fn answers_at_once(alloc: Global, channel: &mut Channel<u64>, call: Call) -> bool {
+fn answers_at_once(channel: &mut Channel<u64>, call: Call) -> bool {
     match call {
-        Call::Sends(message, woken) => match channel.try_send(message) {
-            Ok(first) => task(first) == woken,
-            Err(_) => false,
-        },
+        Call::Sends(message, woken) => {
+            channel.try_send(message).is_ok() && channel.next_owed() == woken
+        }
         Call::IsFull(message) => match channel.try_send(message) {
             Err(TrySendError::Full(back)) => back == message,
             _ => false,
@@ -66,25 +60,27 @@ fn answers_at_once(alloc: Global, channel: &mut Channel<u64>, call: Call) -> boo
             _ => false,
         },
         Call::Receives(message, woken) => match channel.try_recv() {
-            Ok((had, first)) => had == message && task(first) == woken,
+            Ok(had) => had == message && channel.next_owed() == woken,
             Err(_) => false,
         },
         Call::IsEmpty => matches!(channel.try_recv(), Err(TryRecvError::Empty)),
         Call::IsOver => matches!(channel.try_recv(), Err(TryRecvError::Disconnected)),
-        Call::Closes(sender, receiver) => {
-            let (mut senders, mut receivers) = channel.close(alloc);
-            task(senders.pop_front()) == sender && task(receivers.pop_front()) == receiver
+        Call::Closes(first, second) => {
+            channel.close();
+            let one = channel.next_owed();
+            one == first && channel.next_owed() == second
         }
+        Call::Wakes(woken) => channel.next_owed() == woken,
         Call::Has(messages) => channel.len() == messages,
         _ => false,
     }
 }
 
 /// Makes one call, and returns whether it has this answer.
-fn answers(alloc: Global, channel: &mut Channel<u64>, call: Call) -> bool {
+fn answers(channel: &mut Channel<u64>, call: Call) -> bool {
     match call {
         Call::Puts(ticket, message, by, woken) => match channel.send(ticket, message, by) {
-            Sending::Sent(first) => task(first) == woken,
+            Sending::Sent => channel.next_owed() == woken,
             _ => false,
         },
         Call::JoinsSenders(ticket, message, by, drawn) => match channel.send(ticket, message, by) {
@@ -96,7 +92,7 @@ fn answers(alloc: Global, channel: &mut Channel<u64>, call: Call) -> bool {
             _ => false,
         },
         Call::Gets(ticket, message, by, woken) => match channel.recv(ticket, by) {
-            Receiving::Received(had, first) => had == message && task(first) == woken,
+            Receiving::Received(had) => had == message && channel.next_owed() == woken,
             _ => false,
         },
         Call::JoinsReceivers(ticket, by, drawn) => match channel.recv(ticket, by) {
@@ -105,9 +101,15 @@ fn answers(alloc: Global, channel: &mut Channel<u64>, call: Call) -> bool {
         },
         Call::Waits(ticket, by) => matches!(channel.recv(ticket, by), Receiving::Waits),
         Call::Ends(ticket, by) => matches!(channel.recv(ticket, by), Receiving::Closed),
-        Call::LeavesSenders(ticket, woken) => task(channel.give_up_send(ticket)) == woken,
-        Call::LeavesReceivers(ticket, woken) => task(channel.give_up_recv(ticket)) == woken,
-        other => answers_at_once(alloc, channel, other),
+        Call::LeavesSenders(ticket, by, woken) => {
+            channel.give_up_send(ticket, by);
+            channel.next_owed() == woken
+        }
+        Call::LeavesReceivers(ticket, by, woken) => {
+            channel.give_up_recv(ticket, by);
+            channel.next_owed() == woken
+        }
+        other => answers_at_once(channel, other),
     }
 }
 
@@ -115,7 +117,7 @@ fn answers(alloc: Global, channel: &mut Channel<u64>, call: Call) -> bool {
 fn all_answer<R: Abort>(rt: &R, alloc: Global, bound: usize, calls: &[Call]) {
     let mut channel = Channel::new(alloc, bound);
     for call in calls {
-        assert!(rt; answers(alloc, &mut channel, *call));
+        assert!(rt; answers(&mut channel, *call));
     }
 }
 
@@ -154,11 +156,11 @@ fn senders_in_order(rt: HostRuntime) {
             Call::IsFull(13),
             Call::Puts(Some(0), 11, 1, None),
             Call::Receives(11, Some(2)),
-            Call::LeavesSenders(Some(1), None),
+            Call::LeavesSenders(Some(1), 2, None),
             Call::Sends(13, None),
             Call::JoinsSenders(None, 14, 3, 2),
             Call::JoinsSenders(None, 15, 4, 3),
-            Call::LeavesSenders(Some(2), None),
+            Call::LeavesSenders(Some(2), 3, None),
             Call::Receives(13, Some(4)),
             Call::Puts(Some(3), 15, 4, None),
         ],
@@ -181,10 +183,10 @@ fn receivers_in_order(rt: HostRuntime) {
             Call::Gets(Some(0), 10, 1, None),
             Call::Sends(11, Some(2)),
             Call::JoinsReceivers(None, 3, 2),
-            Call::LeavesReceivers(Some(1), Some(3)),
+            Call::LeavesReceivers(Some(1), 2, Some(3)),
             Call::Gets(Some(2), 11, 3, None),
             Call::JoinsReceivers(None, 4, 3),
-            Call::LeavesReceivers(Some(3), None),
+            Call::LeavesReceivers(Some(3), 4, None),
             Call::Sends(12, None),
         ],
     );
@@ -201,7 +203,7 @@ fn closed_while_senders_wait(rt: HostRuntime) {
             Call::Sends(10, None),
             Call::JoinsSenders(None, 11, 1, 0),
             Call::JoinsSenders(None, 12, 2, 1),
-            Call::Closes(Some(1), None),
+            Call::Closes(Some(1), Some(2)),
             Call::GetsBack(Some(0), 11, 1),
             Call::GetsBack(Some(1), 12, 2),
             Call::IsShut(13),
@@ -224,7 +226,7 @@ fn closed_while_receivers_wait(rt: HostRuntime) {
             Call::JoinsReceivers(None, 1, 0),
             Call::JoinsReceivers(None, 2, 1),
             Call::Sends(10, Some(1)),
-            Call::Closes(None, Some(2)),
+            Call::Closes(Some(2), None),
             Call::Gets(Some(0), 10, 1, None),
             Call::Ends(Some(1), 2),
         ],
@@ -246,7 +248,7 @@ fn no_place(rt: HostRuntime) {
     );
 }
 
-// A future waits for the task that polled it last, in the place that it had.
+// A future that another task polls waits anew at the end. The first task is woken in its turn, and takes no message.
 #[test]
 fn latest_task(rt: HostRuntime) {
     all_answer(
@@ -256,10 +258,14 @@ fn latest_task(rt: HostRuntime) {
         &[
             Call::JoinsReceivers(None, 1, 0),
             Call::JoinsReceivers(None, 2, 1),
-            Call::Waits(Some(1), 3),
+            Call::JoinsReceivers(Some(1), 3, 2),
             Call::Sends(10, Some(1)),
+            Call::Wakes(None),
             Call::Gets(Some(0), 10, 1, None),
-            Call::Sends(11, Some(3)),
+            Call::Sends(11, Some(2)),
+            Call::Wakes(Some(3)),
+            Call::Wakes(None),
+            Call::Gets(Some(2), 11, 3, None),
         ],
     );
 }

@@ -1,73 +1,13 @@
 // Futures on a runtime: a task waits for a message, a notice and another value, and then gives itself each of them.
-ghost use Rattle.std.specs.Prelude.{◌≡◌, refl, false, ⊤};
-
+use crate::boards::Board;
 use mono_rt::{
-    Host, NoPool, Poll, RunError, Runtime, RuntimeBuilder, SharedContext, SharedState, StepDriver,
-    TaskFuture, TimeDriver,
+    Host, NoPool, Poll, RunError, Runtime, RuntimeBuilder, SharedContext, StepDriver, TaskFuture,
+    TimeDriver,
 };
 use mono_sync::oneshot::{self, Oneshot};
 use mono_sync::watch::{self, Changed, Watch};
-use mono_sync::{Holds, Notified, Notify, notify_one};
+use mono_sync::{Notified, Notify, notify_one};
 use std::alloc::Global;
-
-/// What the task waits for.
-#[derive(Drop)]
-pub(crate) struct Board {
-    once: Oneshot<u64>,
-    notice: Notify,
-    value: Watch<u64>,
-}
-
-/// It promises nothing.
-impl SharedState for Board {
-    ghost leads = { λ a b. ⊤ };
-
-    ghost leads_itself = { λ a. tt };
-
-    ghost leads_on = { λ a b c p q. tt };
-}
-
-impl Holds<Oneshot<u64>> for Board {
-    ghost part = { λ w. w.once };
-
-    ghost with_part = { λ w x. record w { once = x } };
-
-    fn part_mut(&mut self) -> &mut Oneshot<u64> {
-        &mut self.once
-    }
-
-    ghost part_with = { λ w x. refl };
-
-    ghost leads_with = { λ w x led. tt };
-}
-
-impl Holds<Notify> for Board {
-    ghost part = { λ w. w.notice };
-
-    ghost with_part = { λ w x. record w { notice = x } };
-
-    fn part_mut(&mut self) -> &mut Notify {
-        &mut self.notice
-    }
-
-    ghost part_with = { λ w x. refl };
-
-    ghost leads_with = { λ w x led. tt };
-}
-
-impl Holds<Watch<u64>> for Board {
-    ghost part = { λ w. w.value };
-
-    ghost with_part = { λ w x. record w { value = x } };
-
-    fn part_mut(&mut self) -> &mut Watch<u64> {
-        &mut self.value
-    }
-
-    ghost part_with = { λ w x. refl };
-
-    ghost leads_with = { λ w x led. tt };
-}
 
 /// A task that waits for all three, and gives them at its first turn.
 #[derive(Drop)]
@@ -114,7 +54,7 @@ impl Trial {
         let notified = self.notice.poll(rt, alloc, cx);
         let changed = self.change.poll(rt, alloc, cx);
         match (message, notified, changed) {
-            (Poll::Ready(Some(number)), Poll::Ready(Ok(())), Poll::Ready(Ok(version))) => {
+            (Poll::Ready(Ok(number)), Poll::Ready(Ok(())), Poll::Ready(Ok(version))) => {
                 Some((number, version))
             }
             _ => None,
@@ -123,12 +63,12 @@ impl Trial {
 }
 
 // Sends the message, notifies and replaces the value. Returns whether both values were taken.
-fn give<C: SharedContext<Board>>(alloc: Global, cx: &mut C) -> bool
+fn give<C: SharedContext<Board>>(cx: &mut C) -> bool
     ensures { C.reaches cx.old cx.new }
 {
     let sent = oneshot::send::<u64, Board, C>(cx, 10);
     notify_one::<Board, C>(cx);
-    let replaced = watch::send::<u64, Board, C>(alloc, cx, 20);
+    let replaced = watch::send::<u64, Board, C>(cx, 20);
     sent.is_ok() && replaced.is_ok()
 }
 
@@ -150,7 +90,7 @@ impl<C: SharedContext<Board>> TaskFuture<C> for Trial {
             };
         }
         self.has_given = true;
-        if answer.is_none() && give(alloc, cx) {
+        if answer.is_none() && give(cx) {
             Poll::Pending
         } else {
             Poll::Ready(1)
@@ -170,7 +110,7 @@ fn run<R: Host>(rt: &R, alloc: Global) -> Option<u64> {
     let driver = TimeDriver::new(StepDriver::new(Vec::new(alloc)));
     let builder: RuntimeBuilder<TimeDriver<StepDriver>, NoPool> = RuntimeBuilder::new(driver);
     let board = Board {
-        once: Oneshot::new(),
+        once: Oneshot::new(alloc),
         notice: Notify::new(alloc),
         value: Watch::new(alloc, 0),
     };

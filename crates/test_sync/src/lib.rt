@@ -1,6 +1,7 @@
 //! Tests of channels, semaphores, notices and watched values, over their public calls.
 #![tactic(auto)]
 
+pub mod boards;
 #[cfg(test)]
 mod channels;
 #[cfg(test)]

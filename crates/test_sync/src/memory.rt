@@ -27,7 +27,7 @@ fn refused_receiver(rt: HostRuntime) {
 #[test]
 fn refused_sender(rt: HostRuntime) {
     let mut channel: Channel<u64> = Channel::new(rt.alloc(), 0);
-    if matches!(channel.send(None, 10, 1), Sending::Memory(10, None)) {
+    if matches!(channel.send(None, 10, 1), Sending::Memory(10)) {
         assert!(rt; matches!(channel.send(None, 10, 1), Sending::Joined(0, 10)));
     }
     assert!(rt; matches!(channel.send(Some(0), 10, 1), Sending::Waits(10)));

@@ -1,12 +1,6 @@
 // A notice.
-use mono_sync::{Notify, Notifying, Waiter};
-
-fn task(waiter: Option<Waiter>) -> Option<u64> {
-    match waiter {
-        None => None,
-        Some(waiter) => Some(waiter.task()),
-    }
-}
+use mono_rt::SharedState;
+use mono_sync::{Notify, Notifying};
 
 // Returns the ticket of a future of this task that waits from now on.
 fn drawn(notify: &mut Notify, by: u64) -> Option<u64> {
@@ -16,17 +10,18 @@ fn drawn(notify: &mut Notify, by: u64) -> Option<u64> {
     }
 }
 
-fn has(notify: &mut Notify, ticket: Option<u64>) -> bool {
-    matches!(notify.notified(ticket, 0), Notifying::Notified)
+fn has(notify: &mut Notify, ticket: Option<u64>, by: u64) -> bool {
+    matches!(notify.notified(ticket, by), Notifying::Notified)
 }
 
 // One notice is kept while no task waits, and no more than one.
 #[test]
 fn one_is_kept(rt: HostRuntime) {
     let mut notify = Notify::new(rt.alloc());
-    assert_eq!(rt; task(notify.notify_one()), None);
-    assert_eq!(rt; task(notify.notify_one()), None);
-    assert!(rt; has(&mut notify, None));
+    notify.notify_one();
+    notify.notify_one();
+    assert_eq!(rt; notify.next_owed(), None);
+    assert!(rt; has(&mut notify, None, 1));
     assert_eq!(rt; drawn(&mut notify, 1), Some(0));
 }
 
@@ -36,12 +31,32 @@ fn first_come_first_served(rt: HostRuntime) {
     let mut notify = Notify::new(rt.alloc());
     let one = drawn(&mut notify, 1);
     let two = drawn(&mut notify, 2);
-    assert_eq!(rt; task(notify.notify_one()), Some(1));
-    assert!(rt; !has(&mut notify, two));
-    assert!(rt; has(&mut notify, one));
-    assert_eq!(rt; task(notify.give_up(two)), None);
-    assert_eq!(rt; task(notify.notify_one()), None);
-    assert!(rt; has(&mut notify, None));
+    notify.notify_one();
+    assert_eq!(rt; (notify.next_owed(), notify.next_owed()), (Some(1), None));
+    assert!(rt; !has(&mut notify, two, 2));
+    assert!(rt; has(&mut notify, one, 1));
+    notify.give_up(two, 2);
+    notify.notify_one();
+    assert_eq!(rt; notify.next_owed(), None);
+    assert!(rt; has(&mut notify, None, 3));
+}
+
+// Each notice to one in the same turn goes to another task.
+#[test]
+fn two_at_once(rt: HostRuntime) {
+    let mut notify = Notify::new(rt.alloc());
+    let one = drawn(&mut notify, 1);
+    let two = drawn(&mut notify, 2);
+    notify.notify_one();
+    notify.notify_one();
+    notify.notify_one();
+    assert_eq!(rt;
+        (notify.next_owed(), notify.next_owed()),
+        (Some(1), Some(2))
+    );
+    assert_eq!(rt; notify.next_owed(), None);
+    assert!(rt; has(&mut notify, one, 1) && has(&mut notify, two, 2));
+    assert_eq!(rt; drawn(&mut notify, 3), Some(2));
 }
 
 // A future that was notified and is given up hands its notice on, or it is kept.
@@ -50,25 +65,29 @@ fn handed_on(rt: HostRuntime) {
     let mut notify = Notify::new(rt.alloc());
     let one = drawn(&mut notify, 1);
     let two = drawn(&mut notify, 2);
-    assert_eq!(rt; task(notify.notify_one()), Some(1));
-    assert_eq!(rt; task(notify.give_up(one)), Some(2));
-    assert_eq!(rt; task(notify.give_up(two)), None);
-    assert!(rt; has(&mut notify, None));
+    notify.notify_one();
+    assert_eq!(rt; notify.next_owed(), Some(1));
+    notify.give_up(one, 1);
+    assert_eq!(rt; notify.next_owed(), Some(2));
+    notify.give_up(two, 2);
+    assert_eq!(rt; notify.next_owed(), None);
+    assert!(rt; has(&mut notify, None, 3));
 }
 
 // All that wait are notified, and no notice is kept.
 #[test]
 fn all_at_once(rt: HostRuntime) {
-    let alloc = rt.alloc();
-    let mut notify = Notify::new(alloc);
+    let mut notify = Notify::new(rt.alloc());
     let one = drawn(&mut notify, 1);
     let two = drawn(&mut notify, 2);
-    let mut woken = notify.notify_waiters(alloc);
+    notify.notify_waiters();
     assert_eq!(rt;
-        (task(woken.pop_front()), task(woken.pop_front())),
+        (notify.next_owed(), notify.next_owed()),
         (Some(1), Some(2))
     );
-    assert!(rt; has(&mut notify, one));
-    assert_eq!(rt; task(notify.give_up(two)), None);
+    assert_eq!(rt; notify.next_owed(), None);
+    assert!(rt; has(&mut notify, one, 1));
+    notify.give_up(two, 2);
+    assert_eq!(rt; notify.next_owed(), None);
     assert_eq!(rt; drawn(&mut notify, 3), Some(2));
 }

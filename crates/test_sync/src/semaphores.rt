@@ -1,5 +1,6 @@
 // A semaphore: each test is a table of calls with the answers that they must have.
-use mono_sync::{Acquiring, MAX_PERMITS, Semaphore, TryAcquireError, Waiter};
+use mono_rt::SharedState;
+use mono_sync::{Acquiring, MAX_PERMITS, Semaphore, TryAcquireError};
 use std::alloc::Global;
 use std::process::Abort;
 
@@ -20,25 +21,20 @@ enum Call {
     Waits(Option<u64>, u64),
     /// It finds the semaphore closed.
     Finds(Option<u64>, u64),
-    /// A permit is released, and this task is woken, if any.
+    /// A permit is released, and this task is the first to be woken, if any.
     Releases(Option<u64>),
-    /// A future leaves the line, and this task is woken, if any.
-    Leaves(Option<u64>, Option<u64>),
+    /// A task's future leaves the line, and the last task is the first to be woken, if any.
+    Leaves(Option<u64>, u64, Option<u64>),
     /// It is closed, and these two tasks are woken.
     Closes(u64, u64),
+    /// This task is woken next, if any.
+    Wakes(Option<u64>),
     /// This many permits are free.
     Has(usize),
 }
 
-fn task(waiter: Option<Waiter>) -> Option<u64> {
-    match waiter {
-        None => None,
-        Some(waiter) => Some(waiter.task()),
-    }
-}
-
 /// Makes one call, and returns whether it has this answer.
-fn answers(alloc: Global, semaphore: &mut Semaphore, call: Call) -> bool {
+fn answers(semaphore: &mut Semaphore, call: Call) -> bool {
     match call {
         Call::Takes => semaphore.try_acquire().is_ok(),
         Call::HasNone => matches!(semaphore.try_acquire(), Err(TryAcquireError::NoPermits)),
@@ -50,17 +46,18 @@ fn answers(alloc: Global, semaphore: &mut Semaphore, call: Call) -> bool {
         },
         Call::Waits(ticket, by) => matches!(semaphore.acquire(ticket, by), Acquiring::Waits),
         Call::Finds(ticket, by) => matches!(semaphore.acquire(ticket, by), Acquiring::Closed),
-        Call::Releases(woken) => match semaphore.release() {
-            Ok(first) => task(first) == woken,
-            Err(_) => false,
-        },
-        Call::Leaves(ticket, woken) => task(semaphore.give_up(ticket)) == woken,
-        Call::Closes(one, other) => {
-            let mut woken = semaphore.close(alloc);
-            let first = task(woken.pop_front());
-            let second = task(woken.pop_front());
-            first == Some(one) && second == Some(other) && woken.is_empty()
+        Call::Releases(woken) => semaphore.release().is_ok() && semaphore.next_owed() == woken,
+        Call::Leaves(ticket, by, woken) => {
+            semaphore.give_up(ticket, by);
+            semaphore.next_owed() == woken
         }
+        Call::Closes(one, other) => {
+            semaphore.close();
+            let first = semaphore.next_owed();
+            let second = semaphore.next_owed();
+            first == Some(one) && second == Some(other) && semaphore.next_owed().is_none()
+        }
+        Call::Wakes(woken) => semaphore.next_owed() == woken,
         Call::Has(permits) => semaphore.available_permits() == permits,
     }
 }
@@ -69,7 +66,7 @@ fn answers(alloc: Global, semaphore: &mut Semaphore, call: Call) -> bool {
 fn all_answer<R: Abort>(rt: &R, alloc: Global, permits: usize, calls: &[Call]) {
     let mut semaphore = Semaphore::new(alloc, permits);
     for call in calls {
-        assert!(rt; answers(alloc, &mut semaphore, *call));
+        assert!(rt; answers(&mut semaphore, *call));
     }
 }
 
@@ -112,13 +109,13 @@ fn given_up(rt: HostRuntime) {
             Call::Joins(None, 1, 0),
             Call::Joins(None, 2, 1),
             Call::Joins(None, 3, 2),
-            Call::Leaves(Some(1), None),
+            Call::Leaves(Some(1), 2, None),
             Call::Releases(Some(1)),
-            Call::Leaves(Some(0), Some(3)),
+            Call::Leaves(Some(0), 1, Some(3)),
             Call::Acquires(Some(2), 3),
             Call::Joins(None, 4, 3),
             Call::Releases(Some(4)),
-            Call::Leaves(Some(3), None),
+            Call::Leaves(Some(3), 4, None),
             Call::Has(1),
         ],
     );
@@ -151,7 +148,7 @@ fn no_permit_too_many(rt: HostRuntime) {
     assert_eq!(rt; semaphore.available_permits(), MAX_PERMITS);
 }
 
-// A future waits for the task that polled it last, in the place that it had.
+// A future that another task polls waits anew at the end. The first task is woken in its turn, and takes no permit.
 #[test]
 fn latest_task(rt: HostRuntime) {
     all_answer(
@@ -161,9 +158,27 @@ fn latest_task(rt: HostRuntime) {
         &[
             Call::Joins(None, 1, 0),
             Call::Joins(None, 2, 1),
-            Call::Waits(Some(0), 3),
+            Call::Joins(Some(0), 3, 2),
+            Call::Releases(Some(1)),
+            Call::Wakes(Some(2)),
+            Call::Wakes(None),
+            Call::Acquires(Some(1), 2),
             Call::Releases(Some(3)),
-            Call::Releases(Some(2)),
+            Call::Acquires(Some(2), 3),
         ],
     );
+}
+
+// A permit is owed to the first that waits from its release on: no task takes it before the wake.
+#[test]
+fn owed_before_the_wake(rt: HostRuntime) {
+    let mut semaphore = Semaphore::new(rt.alloc(), 0);
+    assert!(rt; answers(&mut semaphore, Call::Joins(None, 1, 0)));
+    assert!(rt; semaphore.release().is_ok());
+    assert!(rt; answers(&mut semaphore, Call::HasNone));
+    assert!(rt; answers(&mut semaphore, Call::Has(0)));
+    assert!(rt; answers(&mut semaphore, Call::Joins(None, 2, 1)));
+    assert!(rt; answers(&mut semaphore, Call::Wakes(Some(1))));
+    assert!(rt; answers(&mut semaphore, Call::Wakes(None)));
+    assert!(rt; answers(&mut semaphore, Call::Acquires(Some(0), 1)));
 }

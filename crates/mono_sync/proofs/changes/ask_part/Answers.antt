@@ -3,5 +3,7 @@ use Rattle.mono_sync.specs.WatchRuns.{asked, Step}
 use Rattle.mono_sync.proofs.changes.ask_part.Goals as goal
 
 pub returns-clause-leads : goal.returns-clause-leads
-returns-clause-leads g c =
-    g.met.W.Holds.leads_with _ _ (leads_by Step (asked c.args.seen c.args.ticket c.args.task c.changed.result) _ _ (rw c.part_mut.ensures.value at c.changed.ensures))
+returns-clause-leads g c = g.met.W.Holds.leads_with _ _ (leads_by Step (asked c.args.seen c.args.ticket c.args.me c.changed.result) _ _ (rw c.part_mut.ensures.value at c.changed.ensures.answer))
+
+pub returns-clause-keeps : goal.returns-clause-keeps
+returns-clause-keeps g c = g.met.W.Holds.keeps_with c.args.me _ _ (rw c.part_mut.ensures.value at c.changed.ensures.keeps)

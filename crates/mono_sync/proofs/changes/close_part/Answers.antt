@@ -3,5 +3,7 @@ use Rattle.mono_sync.specs.WatchRuns.{closed, Step}
 use Rattle.mono_sync.proofs.changes.close_part.Goals as goal
 
 pub returns-clause-leads : goal.returns-clause-leads
-returns-clause-leads g c =
-    g.met.W.Holds.leads_with _ _ (leads_by Step (closed c.close.result.items) _ _ (rw c.part_mut.ensures.value at c.close.ensures))
+returns-clause-leads g c = g.met.W.Holds.leads_with _ _ (leads_by Step closed _ _ (rw c.part_mut.ensures.value at c.close.ensures.answer))
+
+pub returns-clause-keeps : goal.returns-clause-keeps
+returns-clause-keeps g c me = g.met.W.Holds.keeps_with me _ _ (rw c.part_mut.ensures.value at c.close.ensures.keeps me)

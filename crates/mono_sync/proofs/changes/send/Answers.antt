@@ -1,6 +1,5 @@
-use Rattle.std.proofs.Common.{refl}
 use Rattle.mono_sync.proofs.changes.send.Goals as goal
 
-pub returns-in-Ok-clause-wakes : goal.returns-in-Ok-clause-wakes
-returns-in-Ok-clause-wakes g c =
-    (c.in-Ok.replaced, (rw c.wake_all.ensures.shared c.in-Ok.ensures.answer, refl, rw c.in-Ok.ensures.work at c.wake_all.ensures.work))
+pub returns-clause-reached : goal.returns-clause-reached
+returns-clause-reached g c =
+    g.met.C.SharedContext.reaches_with _ _ (rw c.shared_mut.ensures.value at c.send_part.ensures.leads) (rw c.shared_mut.ensures.value at c.send_part.ensures.keeps (g.C.Context.number c.args.cx.now))

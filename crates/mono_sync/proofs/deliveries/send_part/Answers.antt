@@ -3,5 +3,7 @@ use Rattle.mono_sync.specs.OneshotRuns.{sent, Step}
 use Rattle.mono_sync.proofs.deliveries.send_part.Goals as goal
 
 pub returns-clause-leads : goal.returns-clause-leads
-returns-clause-leads g c =
-    g.met.W.Holds.leads_with _ _ (leads_by Step (sent c.args.message c.send.result) _ _ (rw c.part_mut.ensures.value at c.send.ensures))
+returns-clause-leads g c = g.met.W.Holds.leads_with _ _ (leads_by Step (sent c.args.message c.send.result) _ _ (rw c.part_mut.ensures.value at c.send.ensures.answer))
+
+pub returns-clause-keeps : goal.returns-clause-keeps
+returns-clause-keeps g c me = g.met.W.Holds.keeps_with me _ _ (rw c.part_mut.ensures.value at c.send.ensures.keeps me)

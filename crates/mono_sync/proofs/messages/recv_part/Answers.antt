@@ -2,5 +2,7 @@ use Rattle.mono_sync.specs.MpscRuns.{asked_to_receive, leads_by}
 use Rattle.mono_sync.proofs.messages.recv_part.Goals as goal
 
 pub returns-clause-leads : goal.returns-clause-leads
-returns-clause-leads g c =
-    g.met.W.Holds.leads_with _ _ (leads_by (asked_to_receive c.args.ticket c.args.task c.recv.result) _ _ (rw c.part_mut.ensures.value at c.recv.ensures))
+returns-clause-leads g c = g.met.W.Holds.leads_with _ _ (leads_by (asked_to_receive c.args.ticket c.args.me c.recv.result) _ _ (rw c.part_mut.ensures.value at c.recv.ensures.answer))
+
+pub returns-clause-keeps : goal.returns-clause-keeps
+returns-clause-keeps g c = g.met.W.Holds.keeps_with c.args.me _ _ (rw c.part_mut.ensures.value at c.recv.ensures.keeps)

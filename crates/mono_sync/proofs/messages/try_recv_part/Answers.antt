@@ -2,5 +2,7 @@ use Rattle.mono_sync.specs.MpscRuns.{tried_to_receive, leads_by}
 use Rattle.mono_sync.proofs.messages.try_recv_part.Goals as goal
 
 pub returns-clause-leads : goal.returns-clause-leads
-returns-clause-leads g c =
-    g.met.W.Holds.leads_with _ _ (leads_by (tried_to_receive c.try_recv.result) _ _ (rw c.part_mut.ensures.value at c.try_recv.ensures))
+returns-clause-leads g c = g.met.W.Holds.leads_with _ _ (leads_by (tried_to_receive c.try_recv.result) _ _ (rw c.part_mut.ensures.value at c.try_recv.ensures.answer))
+
+pub returns-clause-keeps : goal.returns-clause-keeps
+returns-clause-keeps g c me = g.met.W.Holds.keeps_with me _ _ (rw c.part_mut.ensures.value at c.try_recv.ensures.keeps me)

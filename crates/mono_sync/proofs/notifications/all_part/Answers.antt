@@ -3,5 +3,7 @@ use Rattle.mono_sync.specs.NoticeRuns.{all, Step}
 use Rattle.mono_sync.proofs.notifications.all_part.Goals as goal
 
 pub returns-clause-leads : goal.returns-clause-leads
-returns-clause-leads g c =
-    g.met.W.Holds.leads_with _ _ (leads_by Step (all c.notify_waiters.result.items) _ _ (rw c.part_mut.ensures.value at c.notify_waiters.ensures))
+returns-clause-leads g c = g.met.W.Holds.leads_with _ _ (leads_by Step all _ _ (rw c.part_mut.ensures.value at c.notify_waiters.ensures.answer))
+
+pub returns-clause-keeps : goal.returns-clause-keeps
+returns-clause-keeps g c me = g.met.W.Holds.keeps_with me _ _ (rw c.part_mut.ensures.value at c.notify_waiters.ensures.keeps me)

@@ -3,5 +3,7 @@ use Rattle.mono_sync.specs.NoticeRuns.{asked, Step}
 use Rattle.mono_sync.proofs.notifications.ask_part.Goals as goal
 
 pub returns-clause-leads : goal.returns-clause-leads
-returns-clause-leads g c =
-    g.met.W.Holds.leads_with _ _ (leads_by Step (asked c.args.ticket c.args.task c.notified.result) _ _ (rw c.part_mut.ensures.value at c.notified.ensures))
+returns-clause-leads g c = g.met.W.Holds.leads_with _ _ (leads_by Step (asked c.args.ticket c.args.me c.notified.result) _ _ (rw c.part_mut.ensures.value at c.notified.ensures.answer))
+
+pub returns-clause-keeps : goal.returns-clause-keeps
+returns-clause-keeps g c = g.met.W.Holds.keeps_with c.args.me _ _ (rw c.part_mut.ensures.value at c.notified.ensures.keeps)

@@ -2,5 +2,7 @@ use Rattle.mono_sync.specs.SemaphoreRuns.{closed, leads_by}
 use Rattle.mono_sync.proofs.permits.close_part.Goals as goal
 
 pub returns-clause-leads : goal.returns-clause-leads
-returns-clause-leads g c =
-    g.met.W.Holds.leads_with _ _ (leads_by (closed c.close.result.items) _ _ (rw c.part_mut.ensures.value at c.close.ensures))
+returns-clause-leads g c = g.met.W.Holds.leads_with _ _ (leads_by closed _ _ (rw c.part_mut.ensures.value at c.close.ensures.answer))
+
+pub returns-clause-keeps : goal.returns-clause-keeps
+returns-clause-keeps g c me = g.met.W.Holds.keeps_with me _ _ (rw c.part_mut.ensures.value at c.close.ensures.keeps me)

@@ -2,5 +2,7 @@ use Rattle.mono_sync.specs.SemaphoreRuns.{gave_up, leads_by}
 use Rattle.mono_sync.proofs.permits.leave_part.Goals as goal
 
 pub returns-clause-leads : goal.returns-clause-leads
-returns-clause-leads g c =
-    g.met.W.Holds.leads_with _ _ (leads_by (gave_up c.args.ticket c.give_up.result) _ _ (rw c.part_mut.ensures.value at c.give_up.ensures))
+returns-clause-leads g c = g.met.W.Holds.leads_with _ _ (leads_by (gave_up c.args.ticket c.args.me) _ _ (rw c.part_mut.ensures.value at c.give_up.ensures.answer))
+
+pub returns-clause-keeps : goal.returns-clause-keeps
+returns-clause-keeps g c = g.met.W.Holds.keeps_with c.args.me _ _ (rw c.part_mut.ensures.value at c.give_up.ensures.keeps)

@@ -2,5 +2,7 @@ use Rattle.mono_sync.specs.SemaphoreRuns.{released, leads_by}
 use Rattle.mono_sync.proofs.permits.release_part.Goals as goal
 
 pub returns-clause-leads : goal.returns-clause-leads
-returns-clause-leads g c =
-    g.met.W.Holds.leads_with _ _ (leads_by (released c.release.result) _ _ (rw c.part_mut.ensures.value at c.release.ensures))
+returns-clause-leads g c = g.met.W.Holds.leads_with _ _ (leads_by (released c.release.result) _ _ (rw c.part_mut.ensures.value at c.release.ensures.answer))
+
+pub returns-clause-keeps : goal.returns-clause-keeps
+returns-clause-keeps g c me = g.met.W.Holds.keeps_with me _ _ (rw c.part_mut.ensures.value at c.release.ensures.keeps me)

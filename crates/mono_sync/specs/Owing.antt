@@ -1,0 +1,27 @@
+-- The tasks that a line lists are among those that wait in it.
+use Rattle.std.specs.Prelude.{Bool, true, false, ◌≡◌, ◌==◌, ◌&&◌, ◌||◌, ℕ, List, [], ◌∷◌}
+use Rattle.std.specs.List.{list_any}
+use Rattle.std.proofs.Common.{refl, ap}
+use Rattle.mono_sync.specs.declared.lines.Waiter.{Waiter}
+use Rattle.mono_sync.specs.Lines.{waits_at, lists_at, tasks_of}
+
+false-true : false ≡ true → ⊥
+false-true e = cc
+
+or_either : (a b x y : Bool) → (a ≡ true → x ≡ true) → (b ≡ true → y ≡ true) → (a || b) ≡ true → (x || y) ≡ true
+or_either true b x y f g is = ap (λ z. z || y) (f refl)
+or_either false b true y f g is = refl
+or_either false b false y f g is = g is
+
+and_right : (a b : Bool) → (a && b) ≡ true → b ≡ true
+and_right true b is = is
+and_right false b is = absurd (false-true is)
+
+at_some : (ws : List Waiter) (k t : ℕ) → waits_at ws k t ≡ true → list_any (λ u. u == t) (tasks_of ws) ≡ true
+at_some [] k t is = absurd (false-true is)
+at_some (w ∷ ws) k t is = or_either ((w.ticket == k) && (w.task == t)) (waits_at ws k t) (w.task == t) (list_any (λ u. u == t) (tasks_of ws)) (and_right (w.ticket == k) (w.task == t)) (at_some ws k t) is
+
+pub line_some : (ws : List Waiter) (p : List ℕ) (t : ℕ) → lists_at ws p t ≡ true → list_any (λ u. u == t) (tasks_of ws) ≡ true
+line_some ws [] t is = absurd (false-true is)
+line_some ws (k ∷ []) t is = at_some ws k t is
+line_some ws (k ∷ l ∷ p) t is = absurd (false-true is)
