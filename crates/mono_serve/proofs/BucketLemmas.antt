@@ -1,5 +1,6 @@
 -- The calls of the buckets are calls of their limiter.
-use Rattle.std.proofs.Common.{◌≡◌, ◌==◌, ◌+◌, ◌-◌, ◌≤◌, ℕ, if◌then◌else◌, List, [], ◌∷◌, ◌++◌, Result, Ok, Err, IsOk, refl, sym, ap, subst, inl, inr, arith}
+use Rattle.std.proofs.Common.{◌≡◌, ◌==◌, ◌+◌, ◌-◌, ◌≤◌, ℕ, Bool, true, false, MatchBool, if◌then◌else◌, List, [], ◌∷◌, ◌++◌, Option, Some, None, Result, Ok, Err, IsOk, refl, sym, ap, subst, ◌∙◌, inl, inr, arith}
+use Rattle.std.specs.declared.alloc.AllocError.{AllocError}
 use Rattle.mono_model.specs.Memory.{OrLacksMemory}
 use Rattle.mono_limit.specs.Limiter.{Limits, TakeAnswers, bucket_answer, with_bucket}
 use Rattle.mono_limit.specs.Limits.{limits_of}
@@ -17,7 +18,7 @@ use Rattle.mono_limit.proofs.RateLemmas as limit_rate
 use Rattle.mono_sync.specs.Runs.{Run}
 use Rattle.mono_serve.specs.declared.buckets.Buckets.{Buckets}
 use Rattle.mono_serve.specs.declared.buckets.Asked.TheVariants.{Granted, Waits, Short, Refused}
-use Rattle.mono_serve.specs.BucketCalls.{TriesAt, Event, added, entered, asked, gave_up, Step}
+use Rattle.mono_serve.specs.BucketCalls.{is_there, place_of, TriesAt, Joins, GivesUp, GivesUpAt, Event, added, entered, asked, gave_up, handed, Step}
 use Rattle.mono_serve.specs.Laws.{given_by, given, RateIsKept}
 
 -- The calls of the limiter that lead from u to v, by which a bucket b gives so many tokens.
@@ -50,16 +51,34 @@ tried b nanos bucket n u v r (inl (due, m, clock, takes)) = record {
 }
 tried b nanos bucket n u v r (inr (refused, same)) = subst (λ x. Calls b u v (taken b bucket n x)) (sym refused) (none b u v same)
 
+same_end : (b : ℕ) (u v w : Limits) (n : ℕ) → w ≡ v → Calls b u v n → Calls b u w n
+same_end b u v w n same made = subst (λ x. Calls b u x n) (sym same) made
+
+left_limits : (x y : Buckets) (me : ℕ) (o : Option ℕ) → GivesUpAt o x me y → limits_of y.limiter ≡ limits_of x.limiter
+left_limits x y me None same = ap (λ (z : Buckets). limits_of z.limiter) same
+left_limits x y me (Some i) s = ap limits_of s.5
+
+joined_limits : (x y : Buckets) (bucket task : ℕ) (r : Result ℕ AllocError) → Joins x bucket task r y → limits_of y.limiter ≡ limits_of x.limiter
+joined_limits x y bucket task (Ok t) s = ap limits_of s.4
+joined_limits x y bucket task (Err e) s = ap limits_of s.1
+
+entered_limits : (x y : Buckets) (ticket bucket task : ℕ) (r : Result ℕ AllocError) (c : Bool) → MatchBool c ((r ≡ Ok ticket) × (y ≡ x)) ((m : Buckets) × GivesUp x ticket task m × Joins m bucket task r y)
+    → limits_of y.limiter ≡ limits_of x.limiter
+entered_limits x y ticket bucket task r true s = ap (λ (z : Buckets). limits_of z.limiter) s.1
+entered_limits x y ticket bucket task r false (m, left, joins) = joined_limits m y bucket task r joins ∙ left_limits x m task (place_of x.waiters.items ticket) left
+
 by_step : (b : ℕ) (e : Event) (x y : Buckets) → Step x e y → Calls b (limits_of x.limiter) (limits_of y.limiter) (given_by b e)
 by_step b (added burst period r) x y s = by_bucket b burst period (limits_of x.limiter) (limits_of y.limiter) r s.0
-by_step b (entered ticket bucket task r) x y (inl s) = none b (limits_of x.limiter) (limits_of y.limiter) (ap limits_of s.7)
-by_step b (entered ticket bucket task (Ok t)) x y (inr (out, joins)) = none b (limits_of x.limiter) (limits_of y.limiter) (ap limits_of joins.3)
-by_step b (entered ticket bucket task (Err e)) x y (inr (out, joins)) = none b (limits_of x.limiter) (limits_of y.limiter) (ap limits_of joins.1)
-by_step b (asked nanos ticket bucket n Waits) x y s = none b (limits_of x.limiter) (limits_of y.limiter) (ap (λ (z : Buckets). limits_of z.limiter) s.1)
-by_step b (asked nanos ticket bucket n (Granted next)) x y s = tried b nanos bucket n (limits_of x.limiter) (limits_of y.limiter) (Ok take.Granted) s.1
-by_step b (asked nanos ticket bucket n (Short tick)) x y s = tried b nanos bucket n (limits_of x.limiter) (limits_of y.limiter) (Ok (take.Short tick)) s.1
-by_step b (asked nanos ticket bucket n (Refused error next)) x y s = tried b nanos bucket n (limits_of x.limiter) (limits_of y.limiter) (Err error) s.1
-by_step b (gave_up ticket bucket next) x y s = none b (limits_of x.limiter) (limits_of y.limiter) (ap limits_of s.0)
+by_step b (entered None bucket task r) x y s = none b (limits_of x.limiter) (limits_of y.limiter) (joined_limits x y bucket task r s)
+by_step b (entered (Some ticket) bucket task r) x y s = none b (limits_of x.limiter) (limits_of y.limiter) (entered_limits x y ticket bucket task r (is_there x.waiters.items ticket bucket task) s)
+by_step b (asked nanos ticket bucket n me Waits) x y s = none b (limits_of x.limiter) (limits_of y.limiter) (ap (λ (z : Buckets). limits_of z.limiter) s.1)
+by_step b (asked nanos ticket bucket n me Granted) x y (m, tries, left) =
+    same_end b (limits_of x.limiter) (limits_of m.limiter) (limits_of y.limiter) _ (left_limits m y me (place_of m.waiters.items ticket) left) (tried b nanos bucket n (limits_of x.limiter) (limits_of m.limiter) (Ok take.Granted) tries.1)
+by_step b (asked nanos ticket bucket n me (Short tick)) x y s = tried b nanos bucket n (limits_of x.limiter) (limits_of y.limiter) (Ok (take.Short tick)) s.1
+by_step b (asked nanos ticket bucket n me (Refused error)) x y (m, tries, left) =
+    same_end b (limits_of x.limiter) (limits_of m.limiter) (limits_of y.limiter) _ (left_limits m y me (place_of m.waiters.items ticket) left) (tried b nanos bucket n (limits_of x.limiter) (limits_of m.limiter) (Err error) tries.1)
+by_step b (gave_up ticket me) x y s = none b (limits_of x.limiter) (limits_of y.limiter) (left_limits x y me (place_of x.waiters.items ticket) s)
+by_step b (handed task) x y s = none b (limits_of x.limiter) (limits_of y.limiter) (ap limits_of s.3)
 
 run_on : (xs ys : List Call) (zs bs : List Answer) (u v w : Limits) → limit.Run u xs zs v → limit.Run v ys bs w → limit.Run u (xs ++ ys) (zs ++ bs) w
 run_on [] ys [] bs u v w same more = subst (λ m. limit.Run m ys bs w) same more

@@ -25,8 +25,10 @@ use Rattle.mono_serve.specs.declared.leases.LockWaiter.{LockWaiter}
 use Rattle.mono_serve.specs.declared.leases.Leases.{Leases}
 use Rattle.mono_serve.specs.declared.leases.Claimed.TheVariants as claim
 use Rattle.mono_serve.specs.declared.leases.Looked.TheVariants as look
-use Rattle.mono_serve.specs.LeaseCalls.{CallsAt, told_of, first_served, ServesAt, Rouses, is_late, IsNext, Serves, Event, shown, called, claimed, looked, gave_up, served, rested, roused, Step}
-use Rattle.mono_serve.specs.LeaseLaws.{call_of, is_such, has_such, ClosesOnTime, ends_hold, TellsHeld, OneHolder, NoWakeIsLost, KeeperIsInTime}
+use Rattle.mono_serve.specs.LeaseCalls.{Shows, CallsAt, told_of, first_served, task_of, is_at, late_one, one_if, ServesAt, ServesAll, is_late, IsNext, Event, shown, called, claimed, looked, gave_up, served, noted, rested, forgot, handed, Step}
+use Rattle.mono_serve.specs.Stands.{stands, tasks_in}
+use Rattle.mono_serve.specs.LeaseLaws.{call_of, is_such, has_such, ClosesOnTime, ends_hold, TellsHeld, OneHolder, NoWakeIsLost, KeyIsHeld, KeeperIsInTime}
+use Rattle.mono_serve.proofs.StandLemmas.{or_split, and_left, same_number}
 
 -- ---- the steps of the sessions in one event: maybe a clock step, and then maybe a call
 abbrev MayShow : Keeper → Keeper → Type 0
@@ -49,6 +51,10 @@ goes_by_calls nanos c told k l (inr (lack, same)) = record { middle = k; shows =
 goes_by_release : (k l : Keeper) (s key : ℕ) → l ≡ released k s key → Goes (Some (call.Release s key)) k l
 goes_by_release k l s key same = record { middle = k; shows = inr refl; does = inl (of_done (release_answer k s key), (refl, same)) }
 
+goes_by_loss : (nanos : ℕ) (k l : Keeper) (s key : ℕ) → ((m : Keeper) × Shows nanos k m × (l ≡ released m s key)) ⊎ (l ≡ released k s key) → Goes (Some (call.Release s key)) k l
+goes_by_loss nanos k l s key (inl (m, (due, clock), same)) = record { middle = m; shows = inl (nanos, due, clock); does = inl (of_done (release_answer m s key), (refl, same)) }
+goes_by_loss nanos k l s key (inr same) = goes_by_release k l s key same
+
 goes_nowhere : (k : Keeper) → Goes None k k
 goes_nowhere k = record { middle = k; shows = inr refl; does = refl }
 
@@ -66,15 +72,16 @@ event_goes (shown nanos (Ok done)) a b k stands s = let x = s.0 k stands in (x.0
 event_goes (shown nanos (Err lack)) a b k stands s = let x = s.0 k stands in (x.0, x.1, subst (λ l. Goes None k l) (sym x.2) (goes_nowhere k))
 event_goes (called nanos c r) a b k stands s = let x = s.0 k stands in (x.0, x.1, goes_by_calls nanos c r k x.0 x.2)
 event_goes (claimed nanos t key task r) a b k stands s = let x = s.0 k stands in (x.0, x.1, goes_by_calls nanos (call.Acquire t key) (told_of r) k x.0 x.2)
-event_goes (looked nanos ticket t key task look.Waits) a b k stands s = let x = s.0 k stands in (x.0, x.1, goes_by_clock nanos x.2.0.0 k x.0 x.2.0.1)
+event_goes (looked nanos ticket t key task (look.Waits u)) a b k stands s = let x = s.0 k stands in (x.0, x.1, goes_by_clock nanos x.2.0.0 k x.0 x.2.0.1)
 event_goes (looked nanos ticket t key task look.Held) a b k stands s = let x = s.0 k stands in (x.0, x.1, goes_by_clock nanos x.2.0.0 k x.0 x.2.0.1)
 event_goes (looked nanos ticket t key task look.Lost) a b k stands s = let x = s.0 k stands in (x.0, x.1, goes_by_clock nanos x.2.0.0 k x.0 x.2.0.1)
-event_goes (looked nanos ticket t key task look.Memory) a b k stands s = let x = s.0 k stands in (x.0, x.1, goes_by_release k x.0 t key x.2)
-event_goes (gave_up ticket t key) a b k stands s = let x = s.0 k stands in (x.0, x.1, goes_by_release k x.0 t key x.2)
-event_goes (served task) a b k stands s = after_same (served task) k a b s.1 stands (goes_nowhere k)
-event_goes (rested task tick) a b k stands s = after_same (rested task tick) k a b s.3 stands (goes_nowhere k)
-event_goes (roused None) a b k stands s = after_same (roused None) k a b s.1 stands (goes_nowhere k)
-event_goes (roused (Some task)) a b k stands s = after_same (roused (Some task)) k a b s.4 stands (goes_nowhere k)
+event_goes (looked nanos ticket t key task look.Memory) a b k stands s = let x = s.0 k stands in (x.0, x.1, goes_by_loss nanos k x.0 t key x.2)
+event_goes (gave_up ticket t key me) a b k stands s = let x = s.0 k stands in (x.0, x.1, goes_by_release k x.0 t key x.2)
+event_goes (served task) a b k stands s = after_same (served task) k a b s.3 stands (goes_nowhere k)
+event_goes noted a b k stands s = after_same noted k a b s.3 stands (goes_nowhere k)
+event_goes (rested task tick) a b k stands s = after_same (rested task tick) k a b s.4 stands (goes_nowhere k)
+event_goes (forgot task) a b k stands s = after_same (forgot task) k a b s.3 stands (goes_nowhere k)
+event_goes (handed task) a b k stands s = after_same (handed task) k a b s.2 stands (goes_nowhere k)
 
 or_left : (a b : Bool) → (a || b) ≡ false → a ≡ false
 or_left true b e = e
@@ -280,15 +287,17 @@ told_first s key (looked nanos ticket t at task look.Held) a b k stands tells st
     (x.0, x.1, subst (λ z. IsFirst z key x.0) tells.0 (subst (λ z. IsFirst t z x.0) tells.1 (holds_first x.0 t at x.2.1.1)))
 told_first s key (claimed nanos t at task (claim.Waits ticket)) a b k stands tells step = absurd tells
 told_first s key (claimed nanos t at task (claim.Refused refusal)) a b k stands tells step = absurd tells
-told_first s key (looked nanos ticket t at task look.Waits) a b k stands tells step = absurd tells
+told_first s key (looked nanos ticket t at task (look.Waits u)) a b k stands tells step = absurd tells
 told_first s key (looked nanos ticket t at task look.Lost) a b k stands tells step = absurd tells
 told_first s key (looked nanos ticket t at task look.Memory) a b k stands tells step = absurd tells
 told_first s key (shown nanos r) a b k stands tells step = absurd tells
 told_first s key (called nanos c r) a b k stands tells step = absurd tells
-told_first s key (gave_up ticket t at) a b k stands tells step = absurd tells
+told_first s key (gave_up ticket t at me) a b k stands tells step = absurd tells
 told_first s key (served task) a b k stands tells step = absurd tells
+told_first s key noted a b k stands tells step = absurd tells
 told_first s key (rested task tick) a b k stands tells step = absurd tells
-told_first s key (roused task) a b k stands tells step = absurd tells
+told_first s key (forgot task) a b k stands tells step = absurd tells
+told_first s key (handed task) a b k stands tells step = absurd tells
 
 pub one_holder : OneHolder
 one_holder e es u m v k s key stands tells step off run =
@@ -327,14 +336,58 @@ none_found k ws none i d inside = not_false (waits k (get_or ws i d).session (ge
     not_false true e = refl
     not_false false e = cc
 
+abbrev AllWait : Keeper → List LockWaiter → Type 0
+AllWait k ws = (i : ℕ) (w : LockWaiter) → i < length ws → w ≡ get_or ws i w → waits k w.session w.key ≡ true
+
+none_served : (k : Keeper) (a b : Leases) (place : Option ℕ) → place ≡ first_served k a.waiters.items → ServesAt place a None b → AllWait k b.waiters.items
+none_served k a b None is (told, line, due) i w inside at =
+    subst (λ (v : LockWaiter). waits k v.session v.key ≡ true) (sym at)
+    (subst (λ ws. waits k (get_or ws i w).session (get_or ws i w).key ≡ true) (sym line) (none_found k a.waiters.items (sym is) i w (omega (arith, inside, ap length line))))
+none_served k a b (Some n) is (v, here, told, line, due) i w inside at = cc
+
+all_served : (k : Keeper) (tasks : List ℕ) (a b : Leases) → StandsFor a.sessions k → ServesAll a tasks b → AllWait k b.waiters.items
+all_served k [] a b stands s = none_served k a b s.0 (s.1 k stands) s.2
+all_served k (task ∷ tasks) a b stands (m, s, rest) = all_served k tasks m b (subst (λ x. StandsFor x k) (sym s.3) stands) rest
+
+same_sessions : (tasks : List ℕ) (a b : Leases) → ServesAll a tasks b → b.sessions ≡ a.sessions
+same_sessions [] a b s = s.3
+same_sessions (task ∷ tasks) a b (m, s, rest) = same_sessions tasks m b rest ∙ s.3
+
 pub no_wake_is_lost : NoWakeIsLost
-no_wake_is_lost a b k stands s i w inside is = by (first_served k a.waiters.items) refl (s.0 k stands)
+no_wake_is_lost a b k stands (m, (tasks, all), notes) = subst (AllWait k) (sym notes.4.0) (all_served k tasks a m stands all)
+
+-- ---- a task that waits while nothing is owed waits at a key that is held
+nil_second : (ts us : List ℕ) → ts ++ us ≡ [] → us ≡ []
+nil_second [] us is = is
+nil_second (t ∷ ts) us is = cc
+
+no_due : (ws : List LockWaiter) → tasks_in task_of ws ≡ [] → ws ≡ []
+no_due [] is = refl
+no_due (w ∷ ws) is = cc
+
+nothing_more : (ws : List LockWaiter) → ws ++ [] ≡ ws
+nothing_more [] = refl
+nothing_more (w ∷ ws) = ap (λ us. w ∷ us) (nothing_more ws)
+
+waits_here : (k : Keeper) (key ticket t : ℕ) (w : LockWaiter) → ((w.task == t) && ((w.key == key) && (w.ticket == ticket))) ≡ true → waits k w.session w.key ≡ true → (s : ℕ) × (waits k s key ≡ true)
+waits_here k key ticket t w is waiting =
+    (w.session, subst (λ n. waits k w.session n ≡ true) (same_number w.key key (and_left (w.key == key) (w.ticket == ticket) (and_second (w.task == t) ((w.key == key) && (w.ticket == ticket)) is))) waiting)
   where
-    by : (o : Option ℕ) → first_served k a.waiters.items ≡ o → ServesAt o a.waiters.items None b.waiters.items → waits k w.session w.key ≡ true
-    by None none (told, same) =
-        subst (λ (v : LockWaiter). waits k v.session v.key ≡ true) (sym is)
-        (subst (λ ws. waits k (get_or ws i w).session (get_or ws i w).key ≡ true) (sym same) (none_found k a.waiters.items none i w (omega (arith, inside, ap length same))))
-    by (Some at) found (v, here, told, same) = cc
+    and_second : (a b : Bool) → (a && b) ≡ true → b ≡ true
+    and_second true b e = e
+    and_second false b e = cc
+
+held_for : (k : Keeper) (key ticket t : ℕ) (ws : List LockWaiter) → AllWait k ws → stands task_of is_at ws (key ∷ ticket ∷ []) t ≡ true → (s : ℕ) × (waits k s key ≡ true)
+held_for k key ticket t [] all is = cc
+held_for k key ticket t (w ∷ ws) all is = elim (or_split ((w.task == t) && ((w.key == key) && (w.ticket == ticket))) (stands task_of is_at ws (key ∷ ticket ∷ []) t) is) [
+  | inl here ↦ waits_here k key ticket t w here (all 0 w (omega arith) refl)
+  | inr later ↦ held_for k key ticket t ws (λ i v inside at. all (suc i) v (omega (arith, inside)) at) later
+]
+
+pub key_is_held : KeyIsHeld
+key_is_held a b k stands_for settles nothing key ticket t listed =
+    let none : b.due.items ≡ [] = no_due b.due.items (nil_second (one_if (late_one b.late b.keeper)) (tasks_in task_of b.due.items) nothing) in
+    held_for k key ticket t b.waiters.items (no_wake_is_lost a b k stands_for settles) (ap (λ ws. stands task_of is_at ws (key ∷ ticket ∷ []) t) (sym (ap (λ ds. b.waiters.items ++ ds) none ∙ nothing_more b.waiters.items)) ∙ listed)
 
 -- ---- the keeper is in time
 in_time_by : (k : Keeper) (alarm next : Option ℕ) → is_late alarm next ≡ false → IsInTime k next → IsInTime k alarm
@@ -347,9 +400,13 @@ in_time_by k (Some tick) None late is = λ s session at. absurd (some_closed (va
 in_time_by k None (Some next) late is = cc
 in_time_by k (Some tick) (Some next) late is = λ s session at. omega (arith, is s session at, not_less next tick late)
 
+not_late : (late : Bool) (keeper : Option ℕ) (ts : List ℕ) → one_if (late_one late keeper) ++ ts ≡ [] → (late ≡ false) ⊎ (keeper ≡ None)
+not_late false keeper ts is = inl refl
+not_late true None ts is = inr refl
+not_late true (Some t) ts is = cc
+
 pub keeper_is_in_time : KeeperIsInTime
-keeper_is_in_time a b k stands s = by s.0
-  where
-    by : ((next : Option ℕ) × IsNext a.sessions next × (is_late a.alarm next ≡ false)) ⊎ (a.keeper ≡ None) → (a.keeper ≡ None) ⊎ IsInTime k a.alarm
-    by (inl (next, is, late)) = inr (in_time_by k a.alarm next late (is.1 k stands))
-    by (inr none) = inl none
+keeper_is_in_time a b k stands (m, (tasks, all), ((next, is, late), keeper, alarm, sessions, line)) nothing = elim (not_late b.late b.keeper (tasks_in task_of b.due.items) nothing) [
+  | inl early ↦ inr (subst (IsInTime k) (sym alarm) (in_time_by k m.alarm next (sym late ∙ early) (is.1 k (subst (λ x. StandsFor x k) (sym (same_sessions tasks a m all)) stands))))
+  | inr none ↦ inl none
+]

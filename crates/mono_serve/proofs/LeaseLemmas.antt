@@ -1,5 +1,5 @@
 -- The effect of calls of the sessions at a moment.
-use Rattle.std.proofs.Common.{◌≡◌, ◌≤◌, ◌<◌, ℕ, List, [], ◌∷◌, ◌++◌, length, Option, Some, None, Result, Ok, Err, Bool, not, refl, sym, ap, subst, ◌∙◌, inl, inr, arith}
+use Rattle.std.proofs.Common.{◌≡◌, ◌≤◌, ◌<◌, ℕ, List, [], ◌∷◌, ◌++◌, length, Option, Some, None, Result, Ok, Err, Bool, true, not, refl, sym, ap, subst, ◌∙◌, inl, inr, arith}
 use Rattle.std.specs.Prelude.{⊤, ◌+◌, OnOk, OnErr}
 use Rattle.std.proofs.lemmas.List.Quantifiers.{position-Some}
 use Rattle.std.specs.declared.alloc.AllocError.{AllocError}
@@ -23,7 +23,7 @@ use Rattle.mono_serve.specs.declared.leases.Claimed.{Claimed}
 use Rattle.mono_serve.specs.declared.leases.Claimed.TheVariants as claim
 use Rattle.mono_serve.specs.declared.leases.Looked.{Looked}
 use Rattle.mono_serve.specs.declared.leases.Looked.TheVariants as look
-use Rattle.mono_serve.specs.LeaseCalls.{MovesTo, Shows, ShownTo, MayAnswer, CallsAt, SameLine, Joins, SeesIn, LooksIn, first_served, ServesAt}
+use Rattle.mono_serve.specs.LeaseCalls.{MovesTo, Shows, ShownTo, MayAnswer, CallsAt, told_of, without, still_waits, SameLine, SameRest, Joins, Claims, LineJoins, LeavesLine, LingersIn, SeesTo, LooksIn, first_served}
 
 abbrev StepsTo : Sessions → ℕ → Sessions → List ℕ → List ℕ → Type 0
 StepsTo a nanos b before after =
@@ -71,7 +71,7 @@ releases a m b nanos s key r first step = calls_at a m b nanos (call.Release s k
 
 -- ---- a future that asks, and one that asks again
 line_on : (a b c : Leases) → SameLine a b → SameLine b c → SameLine a c
-line_on a b c p q = (q.0 ∙ p.0, q.1 ∙ p.1)
+line_on a b c p q = (q.0 ∙ p.0, q.1 ∙ p.1, q.2 ∙ p.2)
 
 -- A reserved place changes nothing that a caller sees.
 pub joins_reserved : (a b c : Leases) (s key task : ℕ) (r : Claimed) → SameLine a b → Joins b s key task r c → Joins a s key task r c
@@ -81,19 +81,62 @@ joins_reserved a b c s key task (claim.Waits ticket) same joins = (
   joins.0 ∙ same.1,
   joins.1 ∙ ap (λ n. b.waiters.items ++ record { ticket = n; session = s; key = key; task = task } ∷ []) same.1 ∙ ap (λ ws. ws ++ record { ticket = a.next; session = s; key = key; task = task } ∷ []) same.0,
   joins.2 ∙ ap (λ n. n + 1) same.1,
+  joins.3 ∙ same.2,
 )
 
-pub looks_by : (a m b : Sessions) (ws : List LockWaiter) (nanos ticket s key : ℕ) (r : Looked) → MovesTo a (Shows nanos) m → ((k : Keeper) → StandsFor m k → SeesIn ws ticket s key r k) → b ≡ m → MovesTo a (LooksIn ws nanos ticket s key r) b
-looks_by a m b ws nanos ticket s key look.Waits first sees same = λ k stands. let x = first k stands in (x.0, subst (λ y. StandsFor y x.0) (sym same) x.1, (x.2, sees x.0 x.1))
-looks_by a m b ws nanos ticket s key look.Held first sees same = λ k stands. let x = first k stands in (x.0, subst (λ y. StandsFor y x.0) (sym same) x.1, (x.2, sees x.0 x.1))
-looks_by a m b ws nanos ticket s key look.Lost first sees same = λ k stands. let x = first k stands in (x.0, subst (λ y. StandsFor y x.0) (sym same) x.1, (x.2, sees x.0 x.1))
-looks_by a m b ws nanos ticket s key look.Memory first sees same = λ k stands. let x = first k stands in absurd (sees x.0 x.1)
+pub line_joins_on : (a b c : Leases) (s key task : ℕ) (r : Result ℕ AllocError) → SameLine a b → LineJoins b s key task r c → LineJoins a s key task r c
+line_joins_on a b c s key task (Ok ticket) same joins = (
+  joins.0 ∙ same.1,
+  joins.1 ∙ ap (λ n. b.waiters.items ++ record { ticket = n; session = s; key = key; task = task } ∷ []) same.1 ∙ ap (λ ws. ws ++ record { ticket = a.next; session = s; key = key; task = task } ∷ []) same.0,
+  joins.2 ∙ ap (λ n. n + 1) same.1,
+  joins.3 ∙ same.2,
+)
+line_joins_on a b c s key task (Err error) same joins = line_on a b c same joins
 
-pub lost_by : (a m b : Sessions) (s key : ℕ) → MovesTo a (λ k l. l ≡ k) m → MovesTo m (λ k l. l ≡ released k s key) b → MovesTo a (λ k l. l ≡ released k s key) b
-lost_by a m b s key first then_release = λ k stands.
+pub rest_on : (a b c : Leases) → SameRest a b → SameRest b c → SameRest a c
+rest_on a b c p q = (q.0 ∙ p.0, q.1 ∙ p.1, q.2 ∙ p.2)
+
+pub claims_on : (a m b : Leases) (nanos s key task : ℕ) (r : Claimed) → m.sessions ≡ a.sessions → SameLine a m → SameRest a m → Claims m nanos s key task r b → Claims a nanos s key task r b
+claims_on a m b nanos s key task r same line rest claims = (
+  subst (λ x. MovesTo x (CallsAt nanos (call.Acquire s key) (told_of r)) b.sessions) same claims.0,
+  joins_reserved a m b s key task r line claims.1,
+  rest_on a m b rest claims.2,
+)
+
+-- The line after this task left it, from the same line.
+pub leaves_on : (a b c : Leases) (ticket me : ℕ) → SameLine a b → LeavesLine b ticket me c → LeavesLine a ticket me c
+leaves_on a b c ticket me same (line, next, due) = (line ∙ ap (λ ws. without ws ticket me) same.0, next ∙ same.1, due ∙ same.2)
+
+-- What is seen of the sessions while the future lingers.
+pub sees_by : (a b : Sessions) (ws : List LockWaiter) (ticket s key : ℕ) (r : Looked) → ((k : Keeper) → StandsFor a k → still_waits ws ticket s key k ≡ true) → MovesTo a (LingersIn s key r) b → MovesTo a (SeesTo ws ticket s key r) b
+sees_by a b ws ticket s key (look.Waits t) still moves = λ k stands. let x = moves k stands in (x.0, x.1, (still k stands, x.2))
+sees_by a b ws ticket s key look.Held still moves = λ k stands. let x = moves k stands in absurd x.2
+sees_by a b ws ticket s key look.Lost still moves = λ k stands. let x = moves k stands in absurd x.2
+sees_by a b ws ticket s key look.Memory still moves = λ k stands. let x = moves k stands in (x.0, x.1, (still k stands, x.2))
+
+pub looks_by : (a m b : Sessions) (ws : List LockWaiter) (nanos ticket s key : ℕ) (r : Looked) → MovesTo a (Shows nanos) m → MovesTo m (SeesTo ws ticket s key r) b → MovesTo a (LooksIn ws nanos ticket s key r) b
+looks_by a m b ws nanos ticket s key (look.Waits t) first then_sees = λ k stands.
+    let x = first k stands in
+    let y = then_sees x.0 x.1 in
+    (x.0, subst (StandsFor b) y.2.1 y.1, (x.2, y.2.0))
+looks_by a m b ws nanos ticket s key look.Held first then_sees = λ k stands.
+    let x = first k stands in
+    let y = then_sees x.0 x.1 in
+    (x.0, subst (StandsFor b) y.2.1 y.1, (x.2, y.2.0))
+looks_by a m b ws nanos ticket s key look.Lost first then_sees = λ k stands.
+    let x = first k stands in
+    let y = then_sees x.0 x.1 in
+    (x.0, subst (StandsFor b) y.2.1 y.1, (x.2, y.2.0))
+looks_by a m b ws nanos ticket s key look.Memory first then_sees = λ k stands.
+    let x = first k stands in
+    let y = then_sees x.0 x.1 in
+    (y.0, y.1, inl (x.0, x.2, y.2.1))
+
+pub lost_by : (a m b : Sessions) (ws : List LockWaiter) (nanos ticket s key : ℕ) → MovesTo a (λ k l. l ≡ k) m → MovesTo m (λ k l. l ≡ released k s key) b → MovesTo a (LooksIn ws nanos ticket s key look.Memory) b
+lost_by a m b ws nanos ticket s key first then_release = λ k stands.
     let x = first k stands in
     let y = then_release x.0 x.1 in
-    (y.0, y.1, y.2 ∙ ap (λ z. released z s key) x.2)
+    (y.0, y.1, inr (y.2 ∙ ap (λ z. released z s key) x.2))
 
 -- ---- the tasks that are served
 -- A place that was found is within the line.

@@ -1,5 +1,10 @@
+pub mod StandLemmas
+pub mod BucketWaits
 pub mod BucketLemmas
+pub mod BucketOwedLemmas
 pub mod LineLemmas
+pub mod LeaseWaits
 pub mod LeaseLemmas
 pub mod LeaseLawLemmas
+pub mod MailWaits
 pub mod MailLemmas

@@ -1,6 +1,6 @@
 -- The calls of mailboxes, and the messages that were sent and received over them.
-use Rattle.std.proofs.Common.{◌≡◌, ◌≢◌, ◌<◌, ◌≤◌, inl, inr, ℕ, zero, suc, Bool, true, false, not, cond, List, [], ◌∷◌, ◌++◌, length, get_or, set, Option, Some, None, Result, Ok, Err, refl, ap, sym, subst, ◌∙◌, arith}
-use Rattle.std.specs.Prelude.{◌==◌, Contains, nat_lt, nat_le}
+use Rattle.std.proofs.Common.{◌≡◌, ◌≢◌, ◌<◌, ◌≤◌, inl, inr, ℕ, zero, suc, Bool, true, false, not, cond, List, [], ◌∷◌, ◌++◌, length, get_or, set, Option, Some, None, Result, Ok, Err, refl, ap, sym, subst, ◌∙◌, arith, eq-eqb}
+use Rattle.std.specs.Prelude.{◌==◌, ◌&&◌, ◌||◌, ◌⊎◌, ◌+◌, MatchBool, nat_lt, nat_le}
 use Rattle.std.specs.List.{position_or_len}
 use Rattle.std.proofs.lemmas.Bool.{cases_eq}
 use Rattle.std.proofs.lemmas.Bool.Decides.{nat_tests}
@@ -28,9 +28,9 @@ use Rattle.mono_serve.specs.declared.mailboxes.Receiver.{Receiver}
 use Rattle.mono_serve.specs.declared.mailboxes.Received.{Received}
 use Rattle.mono_serve.specs.declared.mailboxes.Received.TheVariants as receive
 use Rattle.mono_serve.specs.declared.mailboxes.Mailboxes.{Mailboxes}
-use Rattle.mono_serve.specs.MailCalls.{place_of, message_of, take_answer, taken, stopped, AfterTake, first_served, ServesAt, Event, spawned_one, sent_one, stopped_one, received, gave_up, served, Step}
+use Rattle.mono_serve.specs.MailCalls.{place_of, first_place, is_there, has_actor, is_ready, message_of, take_answer, taken, stopped, Joins, AfterTake, Asks, Collects, Fresh, Returns, Receives, CallsPlace, CallsNext, GivesUpLine, GivesUpAt, GivesUp, Event, spawned_one, sent_one, stopped_one, received, called_next, gave_up, handed, Step}
 use Rattle.mono_serve.specs.MailLaws.{sent_by, sent_to, letter_of, received_by, received_from, ReceivedInOrder, WaitsInLine, NoMessageIsMissed}
-use Rattle.mono_serve.proofs.LeaseLawLemmas.{none_passes}
+use Rattle.mono_serve.proofs.StandLemmas.{any_right, or_left}
 
 true-false : true ≡ false → ⊥
 true-false e = cc
@@ -82,70 +82,105 @@ module _ {M : Type 0} (u : model.Actors M) (a : ℕ) where
     turn-stopped v is = is ∙ ap (λ m. ended true m a) is_one ∙ sym (ap (λ b. cond b (ended true (begun_one u a) a) u) queued)
 
 -- ---- the line
-last_there : (ws : List Receiver) (w : Receiver) → Contains (ws ++ w ∷ []) w
-last_there [] w = (0, omega arith, refl)
-last_there (v ∷ ws) w = let found = last_there ws w in (suc found.0, omega (arith, found.1), found.2)
+self : (n : ℕ) → (n == n) ≡ true
+self n = eq-eqb n n refl
 
-set_there : (ws : List Receiver) (i : ℕ) (w : Receiver) → i < length ws → Contains (set ws i w) w
-set_there [] i w inside = absurd (omega (arith, inside))
-set_there (v ∷ ws) zero w inside = (0, omega arith, refl)
-set_there (v ∷ ws) (suc i) w inside = let found = set_there ws i w (omega (arith, inside)) in (suc found.0, omega (arith, found.1), found.2)
+all_three : (x y z : Bool) → x ≡ true → y ≡ true → z ≡ true → ((x && y) && z) ≡ true
+all_three x y z p q r = ap (λ b. (b && y) && z) p ∙ ap (λ b. b && z) q ∙ r
 
-position_within : (t : ℕ) (ws : List Receiver) (i : ℕ) → place_of ws t ≡ Some i → i < length ws
-position_within t [] i is = cc
-position_within t (w ∷ ws) i is = (position-Some (λ v. v.ticket == t) (w ∷ ws) i w is).0
+last_there : (ws : List Receiver) (ticket actor task : ℕ) → is_there (ws ++ record { ticket = ticket; actor = actor; task = task } ∷ []) ticket actor task ≡ true
+last_there ws ticket actor task =
+    let w : Receiver = record { ticket = ticket; actor = actor; task = task } in
+    any_right (λ (v : Receiver). ((v.ticket == ticket) && (v.actor == actor)) && (v.task == task)) ws (w ∷ []) (or_left (((ticket == ticket) && (actor == actor)) && (task == task)) false (all_three (ticket == ticket) (actor == actor) (task == task) (self ticket) (self actor) (self task)))
 
 waits-equal : {M : Type 0} (r : Received M) (s t : ℕ) → r ≡ receive.Waits s → r ≡ receive.Waits t → s ≡ t
 waits-equal r s t first second = cc
 
+waits-got : {M : Type 0} (r : Received M) (t from : ℕ) (message : M) → r ≡ receive.Waits t → r ≡ receive.Got from message → ⊥
+waits-got r t from message first second = cc
+
+waits-refused : {M : Type 0} (r : Received M) (t : ℕ) (error : ActorError) → r ≡ receive.Waits t → r ≡ receive.Refused error → ⊥
+waits-refused r t error first second = cc
+
+module _ {M : Type 0} (actor task t : ℕ) where
+  abbrev There : Mailboxes M → Type 0
+  There b = is_there b.waiters.items t actor task ≡ true
+
+  joined_there : (a b : Mailboxes M) → Joins a actor task (receive.Waits t) b → There b
+  joined_there a b (drawn, line, called, next, due, actors) =
+      subst (λ n. is_there b.waiters.items n actor task ≡ true) (sym drawn) (ap (λ ws. is_there ws a.next actor task) line ∙ last_there a.waiters.items a.next actor task)
+
+  taken_there : (a b : Mailboxes M) (r : Result (Option (ℕ × M)) ActorError) → AfterTake r a actor task (receive.Waits t) b → There b
+  taken_there a b (Ok (Some (from, message))) p = absurd (waits-got {M = M} (receive.Waits t) t from message refl p.0)
+  taken_there a b (Ok None) p = joined_there a b p
+  taken_there a b (Err error) p = absurd (waits-refused {M = M} (receive.Waits t) t error refl p.0)
+
+  fresh_if : (a b : Mailboxes M) (c : Bool) → MatchBool c (Joins a actor task (receive.Waits t) b) (Asks a actor task (receive.Waits t) b) → There b
+  fresh_if a b true p = joined_there a b p
+  fresh_if a b false (r, m, takes, after) = taken_there m b r after
+
+  fresh_there : (a b : Mailboxes M) → Fresh a actor task (receive.Waits t) b → There b
+  fresh_there a b p = fresh_if a b (has_actor a.waiters.items actor || has_actor a.called.items actor) p
+
+  returns_if : (a b : Mailboxes M) (ticket : ℕ) (c : Bool) → MatchBool c (Collects a ticket actor task (receive.Waits t) b) ((m : Mailboxes M) × GivesUp a ticket task m × Fresh m actor task (receive.Waits t) b) → There b
+  returns_if a b ticket true (r, m, n, takes, left, after) = taken_there n b r after
+  returns_if a b ticket false (m, left, fresh) = fresh_there m b fresh
+
+  receives_if : (r : Received M) (a b : Mailboxes M) (ticket : ℕ) (c : Bool) → r ≡ receive.Waits t → is_there a.waiters.items ticket actor task ≡ c → MatchBool c ((r ≡ receive.Waits ticket) × (b ≡ a)) (Returns a ticket actor task r b) → There b
+  receives_if r a b ticket true waits is p = ap (λ (x : Mailboxes M). is_there x.waiters.items t actor task) p.1 ∙ subst (λ n. is_there a.waiters.items n actor task ≡ true) (waits-equal r ticket t p.0 waits) is
+  receives_if r a b ticket false waits is p = returns_if a b ticket (is_there a.called.items ticket actor task) (subst (λ x. Returns a ticket actor task x b) waits p)
+
 pub waits_in_line : (M : Type 0) → WaitsInLine M
-waits_in_line M a b ticket actor task t all = by (take_answer (actors_of a.actors) actor) all.0
-  where
-    by : (r : Result (Option (ℕ × M)) ActorError) → AfterTake r a ticket actor task (receive.Waits t) b → Contains b.waiters.items (record { ticket = t; actor = actor; task = task })
-    by (Ok (Some (from, message))) after = absurd (cc)
-    by (Ok None) (inl (s, place, held, at, same, line, next)) =
-        subst (λ x. Contains b.waiters.items (record { ticket = x; actor = actor; task = task })) (sym (waits-equal {M = M} (receive.Waits t) t s refl same))
-        (subst (λ ws. Contains ws (record { ticket = s; actor = actor; task = task })) (sym line)
-        (set_there a.waiters.items place (record { ticket = s; actor = actor; task = task }) (position_within s a.waiters.items place at)))
-    by (Ok None) (inr (out, (drawn, line, next))) =
-        subst (λ x. Contains b.waiters.items (record { ticket = x; actor = actor; task = task })) (sym drawn)
-        (subst (λ ws. Contains ws (record { ticket = a.next; actor = actor; task = task })) (sym line) (last_there a.waiters.items (record { ticket = a.next; actor = actor; task = task })))
-    by (Err e) after = absurd (cc)
+waits_in_line M a b None actor task t p = fresh_there actor task t a b p
+waits_in_line M a b (Some ticket) actor task t p = receives_if actor task t (receive.Waits t) a b ticket (is_there a.waiters.items ticket actor task) refl refl p
 
--- ---- the tasks that are served
-pub place_within : {M : Type 0} (u : model.Actors M) (ws : List Receiver) (i : ℕ) → Some i ≡ first_served u ws → i < length ws
-place_within u [] i is = cc
-place_within u (w ∷ ws) i is = (position-Some (λ v. not (waits_at u v.actor)) (w ∷ ws) i w (sym is)).0
+-- ---- the tasks that are called
+not_true : (b : Bool) → not b ≡ false → b ≡ true
+not_true true e = refl
+not_true false e = cc
 
-not_less : (a b : ℕ) → nat_lt a b ≡ false → b ≤ a
-not_less a b e = grind (arith, nat_tests)
+not_both : (x y : Bool) → (not x && not y) ≡ false → (x ≡ true) ⊎ (y ≡ true)
+not_both true y e = inl refl
+not_both false y e = inr (not_true y e)
 
-none_found : {M : Type 0} (u : model.Actors M) (ws : List Receiver) → first_served u ws ≡ None → (i : ℕ) (d : Receiver) → i < length ws → waits_at u (get_or ws i d).actor ≡ true
-none_found u ws none i d inside = not_false (waits_at u (get_or ws i d).actor) (none_passes test ws (past (position_or_len test ws) (length ws) none) i d inside)
+-- the place that was found is one of the actor's
+calls_for : (actor : ℕ) (ws : List Receiver) (v : Receiver) (i : ℕ) → first_place ws actor ≡ Some i → v ≡ get_or ws i v → (v.actor == actor) ≡ true
+calls_for actor ws v i is here =
+    let found : (i < length ws) × (((get_or ws i v).actor == actor) ≡ true) × ((k : ℕ) → k < i → ((get_or ws k v).actor == actor) ≡ false) = position-Some (λ (w : Receiver). w.actor == actor) ws i v is in
+    ap (λ (x : Receiver). x.actor == actor) here ∙ found.1
+
+none_waits : (actor : ℕ) (ws : List Receiver) → first_place ws actor ≡ None → has_actor ws actor ≡ true → ⊥
+none_waits actor ws none has = no_place (position_or_len test ws) (length ws) (found_within ws has) none
   where
     test : Receiver → Bool
-    test w = not (waits_at u w.actor)
+    test w = w.actor == actor
 
-    past : (a b : ℕ) → cond (nat_lt a b) (Some a) None ≡ None → b ≤ a
-    past a b e = by (nat_lt a b) refl e
+    within_if : (b : Bool) (k n : ℕ) (r : Bool) → (r ≡ true → k < n) → (b || r) ≡ true → cond (not b) (1 + k) 0 < 1 + n
+    within_if true k n r rest is = omega arith
+    within_if false k n r rest is = omega (arith, rest is)
+
+    found_within : (us : List Receiver) → has_actor us actor ≡ true → position_or_len test us < length us
+    found_within [] is = cc
+    found_within (w ∷ us) is = omega (arith, within_if (test w) (position_or_len test us) (length us) (has_actor us actor) (found_within us) is)
+
+    no_place : (k n : ℕ) → k < n → cond (nat_lt k n) (Some k) None ≡ None → ⊥
+    no_place k n less e = by (nat_lt k n) (grind (arith, nat_tests)) e
       where
-        by : (c : Bool) → nat_lt a b ≡ c → cond c (Some a) None ≡ None → b ≤ a
+        by : (b : Bool) → b ≡ true → cond b (Some k) None ≡ None → ⊥
         by true f g = cc
-        by false f g = not_less a b f
-
-    not_false : (b : Bool) → not b ≡ false → b ≡ true
-    not_false true e = refl
-    not_false false e = cc
+        by false f g = cc
 
 pub no_message_is_missed : (M : Type 0) → NoMessageIsMissed M
-no_message_is_missed M a b (at, same, next) i w inside is =
-    let none = by (first_served (actors_of a.actors) a.waiters.items) refl at in
-    let all = none_found (actors_of a.actors) a.waiters.items none.0 i w (subst (λ ws. i < length ws) none.1 inside) in
-    subst (λ x. waits_at (actors_of x) w.actor ≡ true) (sym same) (subst (λ (x : Receiver). waits_at (actors_of a.actors) x.actor ≡ true) (sym (is ∙ ap (λ ws. get_or ws i w) none.1)) all)
+no_message_is_missed M a b actor calls has = by (is_ready a actor) refl calls
   where
-    by : (o : Option ℕ) → first_served (actors_of a.actors) a.waiters.items ≡ o → ServesAt o a.waiters.items None b.waiters.items → (first_served (actors_of a.actors) a.waiters.items ≡ None) × (b.waiters.items ≡ a.waiters.items)
-    by None found serves = (found, serves.1)
-    by (Some k) found serves = absurd (none-some _ serves.2)
+    called_if : (o : Option ℕ) → first_place a.waiters.items actor ≡ o → CallsPlace o a b → has_actor b.called.items actor ≡ true
+    called_if None is same = absurd (none_waits actor a.waiters.items is (ap (λ (x : Mailboxes M). has_actor x.waiters.items actor) (sym same) ∙ has))
+    called_if (Some i) is (w, here, line, called, due, next, actors) =
+        ap (λ ws. has_actor ws actor) called ∙ any_right (λ (v : Receiver). v.actor == actor) a.called.items (w ∷ []) (or_left (w.actor == actor) false (calls_for actor a.waiters.items w i is here))
+
+    by : (c : Bool) → is_ready a actor ≡ c → MatchBool c (CallsPlace (first_place a.waiters.items actor) a b) (b ≡ a) → (waits_at (actors_of b.actors) actor ≡ true) ⊎ (has_actor b.called.items actor ≡ true)
+    by true is p = inr (called_if (first_place a.waiters.items actor) refl p)
+    by false is same = subst (λ (x : Mailboxes M). (waits_at (actors_of x.actors) actor ≡ true) ⊎ (has_actor x.called.items actor ≡ true)) (sym same) (not_both (waits_at (actors_of a.actors) actor) (has_actor a.called.items actor) is)
 
 -- ---- the messages that were sent and received
 module _ {M : Type 0} (a : ℕ) (S G : List (Letter M)) where
@@ -234,23 +269,85 @@ module _ {M : Type 0} (a : ℕ) (S G : List (Letter M)) where
           (sym (is ∙ ap (λ b. cond b (ended false (begun_one u x) x) u) (ap (of_actor is_queued) at ∙ queues)))
           (of_end a (S ++ []) (G ++ cond (x == a) (laws.letters_in (got_in actor.mailbox)) []) false (value_at (begun_one u x).table x) (no_turn (begun_one u x)) x refl began)))
 
-  after_letters : (t : Result (Option (ℕ × M)) ActorError) (m b : Mailboxes M) (ticket : Option ℕ) (x task : ℕ) (r : Received M) → AfterTake t m ticket x task r b → letter_of r ≡ letters_got t
-  after_letters (Ok (Some (from, message))) m b ticket x task r after = ap letter_of after.0
-  after_letters (Ok None) m b ticket x task r (inl (t, place, held, at, same, line, next)) = ap letter_of same
-  after_letters (Ok None) m b ticket x task (receive.Got from message) (inr (out, joins)) = absurd joins
-  after_letters (Ok None) m b ticket x task (receive.Waits t) (inr (out, joins)) = refl
-  after_letters (Ok None) m b ticket x task (receive.Refused e) (inr (out, joins)) = refl
-  after_letters (Err e) m b ticket x task r after = ap letter_of after.0
+  -- A call that answers a future takes the first message of its actor, or takes none.
+  abbrev Went : model.Actors M → model.Actors M → ℕ → Received M → Type 0
+  Went u v x r = ((v ≡ taken u x) × (letter_of r ≡ letters_got (take_answer u x))) ⊎ ((v ≡ u) × (letter_of r ≡ []))
+
+  join_went : (m b : Mailboxes M) (x task : ℕ) (r : Received M) → Joins m x task r b → (actors_of b.actors ≡ actors_of m.actors) × (letter_of r ≡ [])
+  join_went m b x task (receive.Got from message) p = absurd p
+  join_went m b x task (receive.Waits t) p = (ap actors_of p.5, refl)
+  join_went m b x task (receive.Refused e) p = (ap actors_of p.2, refl)
+
+  after_went : (t : Result (Option (ℕ × M)) ActorError) (m b : Mailboxes M) (x task : ℕ) (r : Received M) → AfterTake t m x task r b → (actors_of b.actors ≡ actors_of m.actors) × (letter_of r ≡ letters_got t)
+  after_went (Ok (Some (from, message))) m b x task r p = (ap (λ (y : Mailboxes M). actors_of y.actors) p.1, ap letter_of p.0)
+  after_went (Ok None) m b x task r p = join_went m b x task r p
+  after_went (Err e) m b x task r p = (ap (λ (y : Mailboxes M). actors_of y.actors) p.1, ap letter_of p.0)
+
+  calls_same : (m b : Mailboxes M) (x : ℕ) → CallsNext m x b → b.actors ≡ m.actors
+  calls_same m b x calls = by (is_ready m x) calls
+    where
+      place : (o : Option ℕ) → CallsPlace o m b → b.actors ≡ m.actors
+      place None same = ap (λ (y : Mailboxes M). y.actors) same
+      place (Some i) p = p.6
+
+      by : (c : Bool) → MatchBool c (CallsPlace (first_place m.waiters.items x) m b) (b ≡ m) → b.actors ≡ m.actors
+      by true p = place (first_place m.waiters.items x) p
+      by false same = ap (λ (y : Mailboxes M). y.actors) same
+
+  gives_up_same : (m b : Mailboxes M) (ticket me : ℕ) → GivesUp m ticket me b → b.actors ≡ m.actors
+  gives_up_same m b ticket me p = by (place_of m.called.items ticket) p
+    where
+      line : (o : Option ℕ) → GivesUpLine o m me b → b.actors ≡ m.actors
+      line None same = ap (λ (y : Mailboxes M). y.actors) same
+      line (Some i) q = q.6
+
+      by : (o : Option ℕ) → GivesUpAt o m ticket me b → b.actors ≡ m.actors
+      by None q = line (place_of m.waiters.items ticket) q
+      by (Some i) (w, n, out, calls) = calls_same n b w.actor calls ∙ out.5
+
+  asks_went : (m b : Mailboxes M) (x task : ℕ) (r : Received M) → Asks m x task r b → Went (actors_of m.actors) (actors_of b.actors) x r
+  asks_went m b x task r (t, n, (told, took, line), after) = let p = after_went t n b x task r after in inl (p.0 ∙ took, p.1 ∙ ap letters_got told)
+
+  collects_went : (m b : Mailboxes M) (ticket x task : ℕ) (r : Received M) → Collects m ticket x task r b → Went (actors_of m.actors) (actors_of b.actors) x r
+  collects_went m b ticket x task r (t, n, o, (told, took, line), left, after) =
+      let p = after_went t o b x task r after in
+      inl (p.0 ∙ ap actors_of (gives_up_same n o ticket task left) ∙ took, p.1 ∙ ap letters_got told)
+
+  fresh_went : (m b : Mailboxes M) (x task : ℕ) (r : Received M) → Fresh m x task r b → Went (actors_of m.actors) (actors_of b.actors) x r
+  fresh_went m b x task r p = by (has_actor m.waiters.items x || has_actor m.called.items x) p
+    where
+      by : (c : Bool) → MatchBool c (Joins m x task r b) (Asks m x task r b) → Went (actors_of m.actors) (actors_of b.actors) x r
+      by true q = inr (join_went m b x task r q)
+      by false q = asks_went m b x task r q
+
+  received_went : (m b : Mailboxes M) (ticket : Option ℕ) (x task : ℕ) (r : Received M) → Receives m ticket x task r b → Went (actors_of m.actors) (actors_of b.actors) x r
+  received_went m b None x task r p = fresh_went m b x task r p
+  received_went m b (Some ticket) x task r p = by (is_there m.waiters.items ticket x task) p
+    where
+      back : (c : Bool) → MatchBool c (Collects m ticket x task r b) ((n : Mailboxes M) × GivesUp m ticket task n × Fresh n x task r b) → Went (actors_of m.actors) (actors_of b.actors) x r
+      back true q = collects_went m b ticket x task r q
+      back false (n, left, fresh) = subst (λ u. Went u (actors_of b.actors) x r) (ap actors_of (gives_up_same m n ticket task left)) (fresh_went n b x task r fresh)
+
+      by : (c : Bool) → MatchBool c ((r ≡ receive.Waits ticket) × (b ≡ m)) (Returns m ticket x task r b) → Went (actors_of m.actors) (actors_of b.actors) x r
+      by true q = inr (ap (λ (y : Mailboxes M). actors_of y.actors) q.1, ap letter_of q.0)
+      by false q = back (is_there m.called.items ticket x task) q
+
+  received_holds : (u v : model.Actors M) (x : ℕ) (r : Received M) → Went u v x r → Holds u.table a S G → Holds v.table a (S ++ []) (G ++ cond (x == a) (letter_of r) [])
+  received_holds u v x r (inl (took, told)) holds = subst (λ l. Holds v.table a (S ++ []) (G ++ cond (x == a) l [])) (sym told) (of_taken (value_at u.table x) u v x refl took holds)
+  received_holds u v x r (inr (same, none)) holds =
+      subst (λ l. Holds v.table a (S ++ []) (G ++ cond (x == a) l [])) (sym none) (quiet _ a S G [] _ refl (none_if (x == a)) (subst (λ (k : model.Actors M). Holds k.table a S G) (sym same) holds))
+
+  same_holds : (m b : Mailboxes M) → b.actors ≡ m.actors → Holds (actors_of m.actors).table a S G → Holds (actors_of b.actors).table a (S ++ []) (G ++ [])
+  same_holds m b same holds = quiet _ a S G [] [] refl refl (subst (λ x. Holds (actors_of x).table a S G) (sym same) holds)
 
   step_holds : (e : Event M) (m b : Mailboxes M) → Step m e b → Holds (actors_of m.actors).table a S G → Holds (actors_of b.actors).table a (S ++ sent_by a e) (G ++ received_by a e)
   step_holds (spawned_one r) m b step holds = quiet _ a S G [] [] refl refl (of_spawned r (actors_of m.actors) (actors_of b.actors) step.1 holds)
   step_holds (sent_one from to message r) m b step holds = of_sends from to message r (actors_of m.actors) (actors_of b.actors) step.0 step.1 holds
   step_holds (stopped_one x r) m b step holds = quiet _ a S G [] [] refl refl (of_stopped (value_at (actors_of m.actors).table x) (actors_of m.actors) (actors_of b.actors) x refl step.1 holds)
-  step_holds (received ticket x task r) m b step holds =
-      subst (λ l. Holds (actors_of b.actors).table a (S ++ []) (G ++ cond (x == a) l [])) (sym (after_letters (take_answer (actors_of m.actors) x) m b ticket x task r step.0))
-      (of_taken (value_at (actors_of m.actors).table x) (actors_of m.actors) (actors_of b.actors) x refl step.1 holds)
-  step_holds (gave_up ticket) m b step holds = quiet _ a S G [] [] refl refl (subst (λ x. Holds (actors_of x).table a S G) (sym step.1) holds)
-  step_holds (served task) m b step holds = quiet _ a S G [] [] refl refl (subst (λ x. Holds (actors_of x).table a S G) (sym step.1) holds)
+  step_holds (received ticket x task r) m b step holds = received_holds (actors_of m.actors) (actors_of b.actors) x r (received_went m b ticket x task r step) holds
+  step_holds (called_next x) m b step holds = same_holds m b (calls_same m b x step) holds
+  step_holds (gave_up ticket me) m b step holds = same_holds m b (gives_up_same m b ticket me step) holds
+  step_holds (handed task) m b step holds = same_holds m b step.4 holds
 
 module _ {M : Type 0} where
   run_holds : (es : List (Event M)) (u v : Mailboxes M) (a : ℕ) (S G : List (Letter M)) → Holds (actors_of u.actors).table a S G → Run Step u es v

@@ -15,8 +15,7 @@ use Rattle.mono_serve.specs.declared.keepers.Phase.{Phase}
 use Rattle.mono_serve.specs.declared.keepers.Phase.TheVariants.{Waits, Sleeps, Over}
 use Rattle.mono_serve.specs.declared.keepers.KeeperError.{KeeperError}
 use Rattle.mono_serve.specs.declared.keepers.KeeperError.TheVariants.{Memory, Far, Timer}
-use Rattle.mono_serve.specs.LeaseCalls.{ShownAt, Rests}
-use Rattle.mono_serve.specs.Locks.{WakesServed}
+use Rattle.mono_serve.specs.LeaseCalls.{ShownAt, Rests, Forgets, Then}
 use Rattle.mono_serve.specs.Takes.{deadline_of}
 
 abbrev pub is_over : Phase → Bool
@@ -24,11 +23,17 @@ is_over Waits = false
 is_over (Sleeps sleep) = false
 is_over Over = true
 
-module _ {C : Type 0} (sleeps : C → SleepTable) (work : C → Tasks ⊤) (reaches : C → C → Type 0) where
-  -- The sleep of the keeper is removed, if it has one.
+module _ {C : Type 0} (part : C → Leases) (number : C → ℕ) (work : C → Tasks ⊤) where
+  -- The task is the keeper no longer.
+  pub record LeavesRest (c d : C) : Type 0 where
+    pub forgets : Forgets (part c) (number c) (part d)
+    pub work_after : work d ≡ work c
+
+module _ {C : Type 0} (part : C → Leases) (number : C → ℕ) (sleeps : C → SleepTable) (work : C → Tasks ⊤) (reaches : C → C → Type 0) where
+  -- The sleep of the keeper is removed, if it has one, and the leases note the task as the keeper no longer.
   abbrev pub KeeperCancels : Phase → C → C → Type 0
-  KeeperCancels Waits c d = d ≡ c
-  KeeperCancels (Sleeps sleep) c d = SleepCancels sleeps work reaches sleep c d
+  KeeperCancels Waits c d = LeavesRest part number work c d
+  KeeperCancels (Sleeps sleep) c d = (middle : C) × SleepCancels sleeps work reaches sleep c middle × LeavesRest part number work middle d
   KeeperCancels Over c d = d ≡ c
 
 module _ {C : Type 0} (part : C → Leases) (number : C → ℕ) (sleeps : C → SleepTable) (work : C → Tasks ⊤) (reaches : C → C → Type 0) where
@@ -82,13 +87,13 @@ module _ {C : Type 0} (part : C → Leases) (number : C → ℕ) (sleeps : C →
 module _ {C : Type 0} (part : C → Leases) (number nanos : C → ℕ) (sleeps : C → SleepTable) (work : C → Tasks ⊤) (reaches : C → C → Type 0) where
   abbrev pub AfterShown : Result ⊤ AllocError → C → Poll (Result ⊤ KeeperError) → Phase → C → Type 0
   AfterShown (Err lack) c r s d = (r ≡ Ready (Err Memory)) × (s ≡ Over) × (d ≡ c)
-  AfterShown (Ok done) c r s d = (middle : C) × WakesServed part work c middle × reaches c middle × RestsIn part number sleeps work reaches middle r s d
+  AfterShown (Ok done) c r s d = RestsIn part number sleeps work reaches c r s d
 
-  -- The clock is shown the turn's moment, the tasks that are served are woken, and the keeper rests.
+  -- The clock is shown the turn's moment, and the keeper rests.
   pub record Keeps (c : C) (r : Poll (Result ⊤ KeeperError)) (s : Phase) (d : C) : Type 0 where
     pub answer : Result ⊤ AllocError
     pub middle : C
-    pub shown : ShownAt (part c) (nanos c) answer (part middle)
+    pub shown : Then (ShownAt (part c) (nanos c) answer) (part middle)
     pub work_after : work middle ≡ work c
     pub reached : reaches c middle
     pub rest : AfterShown answer middle r s d

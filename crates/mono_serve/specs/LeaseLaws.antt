@@ -15,11 +15,11 @@ use Rattle.mono_serve.specs.declared.leases.Claimed.{Claimed}
 use Rattle.mono_serve.specs.declared.leases.Claimed.TheVariants as claim
 use Rattle.mono_serve.specs.declared.leases.Looked.{Looked}
 use Rattle.mono_serve.specs.declared.leases.Looked.TheVariants as look
-use Rattle.mono_serve.specs.LeaseCalls.{Serves, Rouses, Event, shown, called, claimed, looked, gave_up, served, rested, roused, Step}
+use Rattle.mono_serve.specs.LeaseCalls.{listed_in, owed_by, Settles, Event, shown, called, claimed, looked, gave_up, served, noted, rested, forgot, handed, Step}
 
 -- The call on the sessions after the clock step, if the event has one.
 abbrev pub looked_call : ℕ → ℕ → Looked → Option Call
-looked_call s key look.Waits = None
+looked_call s key (look.Waits t) = None
 looked_call s key look.Held = None
 looked_call s key look.Lost = None
 looked_call s key look.Memory = Some (call.Release s key)
@@ -29,10 +29,12 @@ call_of (shown nanos r) = None
 call_of (called nanos c r) = Some c
 call_of (claimed nanos s key task r) = Some (call.Acquire s key)
 call_of (looked nanos ticket s key task r) = looked_call s key r
-call_of (gave_up ticket s key) = Some (call.Release s key)
+call_of (gave_up ticket s key me) = Some (call.Release s key)
 call_of (served task) = None
+call_of noted = None
 call_of (rested task tick) = None
-call_of (roused task) = None
+call_of (forgot task) = None
+call_of (handed task) = None
 
 -- Whether one of the events has such a call.
 abbrev pub is_such : (Call → Bool) → Option Call → Bool
@@ -70,10 +72,14 @@ abbrev pub OneHolder : Type 0
 OneHolder = (e : Event) (es : List Event) (u m v : Leases) (k : Keeper) (s key : ℕ) → StandsFor u.sessions k → TellsHeld s key e → Step u e m → has_such (ends_hold s key) es ≡ false → Run Step m es v
     → (l : Keeper) × StandsFor v.sessions l × (is_open l s ≡ true → owner_answer l key ≡ Some s)
 
--- Once no task is served, the session of each task in the line is in its key's queue behind another.
+-- After a call, the session of each task in the line is in its key's queue behind another: the key is held.
 abbrev pub NoWakeIsLost : Type 0
-NoWakeIsLost = (a b : Leases) (k : Keeper) → StandsFor a.sessions k → Serves a None b → (i : ℕ) (w : LockWaiter) → i < length b.waiters.items → w ≡ get_or b.waiters.items i w → waits k w.session w.key ≡ true
+NoWakeIsLost = (a b : Leases) (k : Keeper) → StandsFor a.sessions k → Settles a b → (i : ℕ) (w : LockWaiter) → i < length b.waiters.items → w ≡ get_or b.waiters.items i w → waits k w.session w.key ≡ true
 
--- A keeper that is not roused sleeps at most until a session is to be closed.
+-- While a task waits at a key and nothing is owed, its session is in the key's queue behind another: the key is held.
+abbrev pub KeyIsHeld : Type 0
+KeyIsHeld = (a b : Leases) (k : Keeper) → StandsFor a.sessions k → Settles a b → owed_by b ≡ [] → (key ticket t : ℕ) → listed_in b (key ∷ ticket ∷ []) t ≡ true → (s : ℕ) × (waits k s key ≡ true)
+
+-- A keeper that is owed no wake after a call sleeps at most until a session is to be closed.
 abbrev pub KeeperIsInTime : Type 0
-KeeperIsInTime = (a b : Leases) (k : Keeper) → StandsFor a.sessions k → Rouses a None b → (a.keeper ≡ None) ⊎ IsInTime k a.alarm
+KeeperIsInTime = (a b : Leases) (k : Keeper) → StandsFor a.sessions k → Settles a b → owed_by b ≡ [] → (b.keeper ≡ None) ⊎ IsInTime k b.alarm

@@ -1,3 +1,4 @@
+pub mod Stands
 pub mod BucketCalls
 pub mod Takes
 pub mod Laws

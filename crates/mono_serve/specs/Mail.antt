@@ -1,8 +1,8 @@
 -- The effect of a task's calls on mailboxes, and the answer and the effect of one poll of a future that receives.
-use Rattle.std.specs.Prelude.{⊤, ◌≡◌, ℕ, ◌*◌, false, List, [], ◌∷◌, Option, Some, None, Result, Ok, Err}
+use Rattle.std.specs.Prelude.{⊤, ◌≡◌, ℕ, ◌*◌, false, Option, Some, None, Result, Ok, Err}
 use Rattle.std.specs.Duration.{as_nanos}
 use Rattle.std.specs.declared.time.Duration.{Duration}
-use Rattle.mono_model.specs.Tasks.{Tasks, all_woken}
+use Rattle.mono_model.specs.Tasks.{Tasks}
 use Rattle.mono_model.specs.declared.poll.Poll.{Poll}
 use Rattle.mono_model.specs.declared.poll.Poll.TheVariants.{Ready, Pending}
 use Rattle.mono_actor.specs.declared.answers.ActorError.{ActorError}
@@ -14,63 +14,39 @@ use Rattle.mono_serve.specs.declared.mailboxes.Mailboxes.{Mailboxes}
 use Rattle.mono_serve.specs.declared.mailboxes.Received.{Received}
 use Rattle.mono_serve.specs.declared.mailboxes.Received.TheVariants as receive
 use Rattle.mono_serve.specs.declared.receives.Receive.{Receive}
-use Rattle.mono_serve.specs.MailCalls.{Sends, Stops, Receives, GivesUp, Serves}
-
-module _ {M : Type 0} where
-  -- These tasks leave the line one after another, until the actor of each task in the line waits.
-  abbrev pub ServesAll : Mailboxes M → List ℕ → Mailboxes M → Type 0
-  ServesAll a [] b = Serves a None b
-  ServesAll a (task ∷ tasks) b = (m : Mailboxes M) × Serves a (Some task) m × ServesAll m tasks b
+use Rattle.mono_serve.specs.MailCalls.{Sends, Stops, Receives, GivesUp, Then}
 
 module _ {M C : Type 0} (part : C → Mailboxes M) (work : C → Tasks ⊤) where
-  -- The tasks that leave the line are woken in that order.
-  abbrev pub WakesServed : C → C → Type 0
-  WakesServed c d = (tasks : List ℕ) × ServesAll (part c) tasks (part d) × (work d ≡ all_woken (work c) tasks)
-
-module _ {M C : Type 0} (part : C → Mailboxes M) (work : C → Tasks ⊤) (reaches : C → C → Type 0) where
-  -- A message is sent, and the tasks that it serves are woken.
+  -- A message is sent.
   pub record SendsIn (from to : ℕ) (message : M) (answer : Result Sent (SendRefused M)) (c d : C) : Type 0 where
-    pub middle : C
-    pub sends : Sends (part c) from to message answer (part middle)
-    pub work_after : work middle ≡ work c
-    pub reached : reaches c middle
-    pub served : WakesServed part work middle d
+    pub sends : Then (Sends (part c) from to message answer) to (part d)
+    pub work_after : work d ≡ work c
 
-  -- An actor is removed, and the tasks that wait for it are woken.
+  -- An actor is removed.
   pub record StopsIn (actor : ℕ) (answer : Result ⊤ ActorError) (c d : C) : Type 0 where
-    pub middle : C
-    pub stops : Stops (part c) actor answer (part middle)
-    pub work_after : work middle ≡ work c
-    pub reached : reaches c middle
-    pub served : WakesServed part work middle d
+    pub stops : Then (Stops (part c) actor answer) actor (part d)
+    pub work_after : work d ≡ work c
 
-  -- The future leaves the line, and the tasks that are served are woken.
+module _ {M C : Type 0} (part : C → Mailboxes M) (number : C → ℕ) (work : C → Tasks ⊤) where
+  -- The future leaves the line.
   pub record Leaves (ticket : ℕ) (c d : C) : Type 0 where
-    pub middle : C
-    pub left : GivesUp (part c) ticket (part middle)
-    pub work_after : work middle ≡ work c
-    pub reached : reaches c middle
-    pub served : WakesServed part work middle d
+    pub left : GivesUp (part c) ticket (number c) (part d)
+    pub work_after : work d ≡ work c
 
   abbrev pub ReceiveCancels : Option ℕ → C → C → Type 0
   ReceiveCancels None c d = d ≡ c
   ReceiveCancels (Some ticket) c d = Leaves ticket c d
 
-module _ {M C : Type 0} (part : C → Mailboxes M) (number : C → ℕ) (work : C → Tasks ⊤) (reaches : C → C → Type 0) where
   abbrev pub AfterReceive : Received M → Poll (Result (ℕ × M) ActorError) → Option ℕ → Type 0
   AfterReceive (receive.Got from message) r left = (r ≡ Ready (Ok (from, message))) × (left ≡ None)
   AfterReceive (receive.Waits ticket) r left = (r ≡ Pending) × (left ≡ Some ticket)
   AfterReceive (receive.Refused error) r left = (r ≡ Ready (Err error)) × (left ≡ None)
 
-  -- A future asks for a message, and the tasks that are served are woken: those of the same actor, if it has more.
+  -- A future asks for a message.
   pub record ReceivePolls (ticket : Option ℕ) (actor : ℕ) (c : C) (r : Poll (Result (ℕ × M) ActorError)) (left : Option ℕ) (d : C) : Type 0 where
     pub answer : Received M
-    pub middle : C
-    pub receives : Receives (part c) ticket actor (number c) answer (part middle)
-    pub work_after : work middle ≡ work c
-    pub reached : reaches c middle
-    pub served : WakesServed part work middle d
-    pub since : reaches middle d
+    pub receives : Receives (part c) ticket actor (number c) answer (part d)
+    pub work_after : work d ≡ work c
     pub rest : AfterReceive answer r left
 
 -- A future that receives a message to the actor, and its delay of so many milliseconds. Neither was polled.

@@ -1,5 +1,5 @@
 -- Laws that hold over any calls of mailboxes by any tasks.
-use Rattle.std.specs.Prelude.{Contains, ◌≡◌, ◌<◌, ◌==◌, ℕ, true, if◌then◌else◌, List, [], ◌∷◌, ◌++◌, length, get_or, Option, None, Result, Ok, Err}
+use Rattle.std.specs.Prelude.{◌≡◌, ◌==◌, ◌⊎◌, ℕ, true, if◌then◌else◌, List, [], ◌∷◌, ◌++◌, Option, Result, Ok, Err}
 use Rattle.mono_actor.specs.Actors.{no_actors}
 use Rattle.mono_actor.specs.Callers.{actors_of}
 use Rattle.mono_actor.specs.Laws.{IsPrefix}
@@ -8,11 +8,10 @@ use Rattle.mono_actor.specs.declared.mailboxes.Letter.{Letter}
 use Rattle.mono_actor.specs.declared.answers.Sent.{Sent}
 use Rattle.mono_actor.specs.declared.answers.SendRefused.{SendRefused}
 use Rattle.mono_sync.specs.Runs.{Run}
-use Rattle.mono_serve.specs.declared.mailboxes.Receiver.{Receiver}
 use Rattle.mono_serve.specs.declared.mailboxes.Received.{Received}
 use Rattle.mono_serve.specs.declared.mailboxes.Received.TheVariants as receive
 use Rattle.mono_serve.specs.declared.mailboxes.Mailboxes.{Mailboxes}
-use Rattle.mono_serve.specs.MailCalls.{Receives, Serves, Event, spawned_one, sent_one, stopped_one, received, gave_up, served, Step}
+use Rattle.mono_serve.specs.MailCalls.{is_there, has_actor, Receives, CallsNext, Event, spawned_one, sent_one, stopped_one, received, called_next, gave_up, handed, Step}
 
 module _ {M : Type 0} where
   -- The messages that one call sent to an actor, and those that several calls sent.
@@ -25,8 +24,9 @@ module _ {M : Type 0} where
   sent_by a (sent_one from to message r) = if to == a then letter_if a from message r else []
   sent_by a (stopped_one actor r) = []
   sent_by a (received ticket actor task r) = []
-  sent_by a (gave_up ticket) = []
-  sent_by a (served task) = []
+  sent_by a (called_next actor) = []
+  sent_by a (gave_up ticket me) = []
+  sent_by a (handed task) = []
 
   abbrev pub sent_to : ℕ → List (Event M) → List (Letter M)
   sent_to a [] = []
@@ -43,8 +43,9 @@ module _ {M : Type 0} where
   received_by a (sent_one from to message r) = []
   received_by a (stopped_one actor r) = []
   received_by a (received ticket actor task r) = if actor == a then letter_of r else []
-  received_by a (gave_up ticket) = []
-  received_by a (served task) = []
+  received_by a (called_next actor) = []
+  received_by a (gave_up ticket me) = []
+  received_by a (handed task) = []
 
   abbrev pub received_from : ℕ → List (Event M) → List (Letter M)
   received_from a [] = []
@@ -58,8 +59,9 @@ ReceivedInOrder M = (es : List (Event M)) (u v : Mailboxes M) (most_actors most_
 
 -- A task whose future waits is in the line, for its actor.
 abbrev pub WaitsInLine : Type 0 → Type 0
-WaitsInLine M = (a b : Mailboxes M) (ticket : Option ℕ) (actor task t : ℕ) → Receives a ticket actor task (receive.Waits t) b → Contains b.waiters.items (record { ticket = t; actor = actor; task = task })
+WaitsInLine M = (a b : Mailboxes M) (ticket : Option ℕ) (actor task t : ℕ) → Receives a ticket actor task (receive.Waits t) b → is_there b.waiters.items t actor task ≡ true
 
--- Once no task is served, the actor of each task in the line is live, and no message waits for it.
+-- After a call, while a task waits in the line for its actor, no message is there for it: none waits for the actor, or
+-- one that came before was called.
 abbrev pub NoMessageIsMissed : Type 0 → Type 0
-NoMessageIsMissed M = (a b : Mailboxes M) → Serves a None b → (i : ℕ) (w : Receiver) → i < length b.waiters.items → w ≡ get_or b.waiters.items i w → waits_at (actors_of b.actors) w.actor ≡ true
+NoMessageIsMissed M = (a b : Mailboxes M) (actor : ℕ) → CallsNext a actor b → has_actor b.waiters.items actor ≡ true → (waits_at (actors_of b.actors) actor ≡ true) ⊎ (has_actor b.called.items actor ≡ true)

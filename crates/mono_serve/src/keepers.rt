@@ -3,14 +3,13 @@ ghost use Rattle.std.specs.Prelude.{◌≡◌, false};
 ghost use Rattle.std.specs.Option.{option_map};
 ghost use Rattle.mono_model.specs.Poll.{OnPending};
 ghost use Rattle.mono_time.specs.Instants.{nanos_of};
-ghost use Rattle.mono_serve.specs.Keepers.{is_over, KeeperPolls, KeeperCancels, Keeps, RestsIn, RestsUntil, MakesNap, Naps};
-ghost use Rattle.mono_serve.specs.LeaseCalls.{ShownAt, Rests};
+ghost use Rattle.mono_serve.specs.Keepers.{is_over, KeeperPolls, KeeperCancels, LeavesRest, Keeps, RestsIn, RestsUntil, MakesNap, Naps};
+ghost use Rattle.mono_serve.specs.LeaseCalls.{ShownAt, Rests, Forgets, Then};
 ghost use Rattle.mono_serve.specs.Takes.{deadline_of};
 ghost use Rattle.mono_serve.specs.declared.keepers.Phase.TheVariants.{Waits};
 
-use crate::lease_parts::{advance_part, rest_part};
+use crate::lease_parts::{advance_part, forget_part, rest_part};
 use crate::leases::Leases;
-use crate::served::wake_served;
 use crate::takes::deadline_of;
 use crate::wakes::wake_task;
 use mono_model::{Host, Poll};
@@ -21,10 +20,11 @@ use std::alloc::{AllocError, Global};
 use std::marker::PhantomData;
 use std::mem;
 
-/// A future that closes each session in time, and wakes the tasks that hold its keys from then on.
+/// A future that closes each session in time. The tasks that hold its keys from then on are owed a wake.
 ///
 /// It sleeps until the next tick at which the clock may close a session, and never answers unless it fails. The leases
-/// have one keeper: the one that was polled last is woken when a session is opened.
+/// have one keeper: the one that was polled last is owed a wake if a session is to be closed before its sleep is over. One
+/// that is cancelled is no keeper any more.
 #[derive(Drop)]
 pub struct Keeper<W> {
     pub(crate) phase: Phase,
@@ -70,7 +70,7 @@ fn advance<W: Holds<Leases>, C: SharedContext<W>>(
     alloc: Global,
     cx: &mut C,
 ) -> Result<(), AllocError>
-    ensures shown { ShownAt (W.part (C.shared cx.old)) (C.nanos cx.old) result (W.part (C.shared cx.new)) }
+    ensures shown { Then (ShownAt (W.part (C.shared cx.old)) (C.nanos cx.old) result) (W.part (C.shared cx.new)) }
     ensures work { C.work cx.new ≡ C.work cx.old }
     ensures reached { C.reaches cx.old cx.new }
 {
@@ -86,6 +86,24 @@ fn rest<W: Holds<Leases>, C: SharedContext<W>>(cx: &mut C) -> Option<u64>
 {
     let me = cx.me();
     rest_part(cx.shared_mut(), me)
+}
+
+// Notes the running task as the keeper no longer.
+fn forget<W: Holds<Leases>, C: SharedContext<W>>(cx: &mut C)
+    ensures forgets { Forgets (W.part (C.shared cx.old)) (C.number cx.old) (W.part (C.shared cx.new)) }
+    ensures work { C.work cx.new ≡ C.work cx.old }
+    ensures reached { C.reaches cx.old cx.new }
+{
+    let me = cx.me();
+    forget_part(cx.shared_mut(), me)
+}
+
+// Notes the running task as the keeper no longer, and says so in one clause.
+fn leave<W: Holds<Leases>, C: SharedContext<W>>(cx: &mut C)
+    ensures left { LeavesRest (λ x. W.part (C.shared x)) C.number C.work cx.old cx.new }
+    ensures reached { C.reaches cx.old cx.new }
+{
+    forget::<W, C>(cx);
 }
 
 impl<W> Keeper<W> {
@@ -192,7 +210,7 @@ impl<W> Keeper<W> {
         }
     }
 
-    // Closes the sessions whose time is over, wakes the tasks that are served, and rests.
+    // Closes the sessions whose time is over, and rests.
     fn keep<C: TimeContext + SharedContext<W>, R: Host>(
         &mut self,
         rt: &R,
@@ -210,10 +228,7 @@ impl<W> Keeper<W> {
                 self.phase = Phase::Over;
                 Poll::Ready(Err(KeeperError::Memory))
             }
-            Ok(()) => {
-                wake_served::<W, C>(cx);
-                self.rest(rt, alloc, cx)
-            }
+            Ok(()) => self.rest(rt, alloc, cx),
         }
     }
 }
@@ -227,7 +242,7 @@ impl<W: Holds<Leases>, C: TimeContext + SharedContext<W>> TaskFuture<C> for Keep
 
     ghost polls = { λ f c r g d. KeeperPolls (λ x. W.part (C.shared x)) C.number C.nanos C.sleeps C.work C.reaches f.phase c r g.phase d };
 
-    ghost cancels = { λ f c d. KeeperCancels C.sleeps C.work C.reaches f.phase c d };
+    ghost cancels = { λ f c d. KeeperCancels (λ x. W.part (C.shared x)) C.number C.sleeps C.work C.reaches f.phase c d };
 
     fn spent(&self) -> bool {
         match &self.phase {
@@ -255,8 +270,11 @@ impl<W: Holds<Leases>, C: TimeContext + SharedContext<W>> TaskFuture<C> for Keep
 
     fn cancel(self, cx: &mut C) {
         match self.phase {
-            Phase::Sleeps(sleep) => sleep.cancel(cx),
-            Phase::Waits => {}
+            Phase::Sleeps(sleep) => {
+                sleep.cancel(cx);
+                leave::<W, C>(cx);
+            }
+            Phase::Waits => leave::<W, C>(cx),
             Phase::Over => {}
         }
     }

@@ -1,7 +1,7 @@
 //! Laws that hold over any calls of buckets, of leases and of mailboxes.
-ghost use Rattle.mono_serve.specs.LeaseLaws.{ClosesOnTime, OneHolder, NoWakeIsLost, KeeperIsInTime};
+ghost use Rattle.mono_serve.specs.LeaseLaws.{ClosesOnTime, OneHolder, NoWakeIsLost, KeyIsHeld, KeeperIsInTime};
 ghost use Rattle.mono_serve.specs.MailLaws.{ReceivedInOrder, WaitsInLine, NoMessageIsMissed};
-ghost use Rattle.mono_serve.specs.Laws.{RateIsKept, FirstComeFirstServed};
+ghost use Rattle.mono_serve.specs.Laws.{RateIsKept, FirstComeFirstServed, FirstIsOwed};
 
 /// Shows that over any calls of any tasks a bucket gives at most the tokens that it had before, and one for each period
 /// that has ended.
@@ -12,6 +12,11 @@ pub fn rate_is_kept()
 /// Shows that the first task that waits for a bucket is the one that came first.
 pub fn first_come_first_served()
     ensures { FirstComeFirstServed }
+{}
+
+/// Shows that a future that comes to be the first for its bucket, by a call of another one, is owed a wake.
+pub fn first_is_owed()
+    ensures { FirstIsOwed }
 {}
 
 /// Shows that a session that no call renews or closes is open if and only if the clock has not reached its closing tick.
@@ -25,12 +30,17 @@ pub fn one_holder()
     ensures { OneHolder }
 {}
 
-/// Shows that after the wakes of a call each task in the line has its session in its key's queue behind another.
+/// Shows that after a call each task in the line has its session in its key's queue behind another.
 pub fn no_wake_is_lost()
     ensures { NoWakeIsLost }
 {}
 
-/// Shows that a keeper that is not woken sleeps at most until the next session is to be closed.
+/// Shows that while a task waits at a key and nothing is owed, the key is held.
+pub fn key_is_held()
+    ensures { KeyIsHeld }
+{}
+
+/// Shows that a keeper that is owed no wake sleeps at most until the next session is to be closed.
 pub fn keeper_is_in_time()
     ensures { KeeperIsInTime }
 {}

@@ -1,10 +1,10 @@
 // The calls of leases that are a part of a shared value.
-ghost use Rattle.std.specs.Prelude.{◌≡◌, ◌<◌, OnSome};
-ghost use Rattle.std.specs.VecDeque.{deque_len};
+ghost use Rattle.std.specs.Prelude.{ℕ};
 ghost use Rattle.mono_session.specs.Answers.{of_number, of_done};
 ghost use Rattle.mono_session.specs.Calls as call;
 ghost use Rattle.mono_time.specs.Instants.{nanos_of};
-ghost use Rattle.mono_serve.specs.LeaseCalls.{ShownAt, Calls, Claims, Looks, GivesUp, Serves, Rests, Rouses};
+ghost use Rattle.mono_serve.specs.LeaseCalls.{ShownAt, Calls, Claims, Looks, GivesUp, Rests, Forgets, Then};
+ghost use Rattle.mono_task.specs.Owed.{Keeps};
 
 use crate::leases::{Claimed, Leases, Looked};
 use mono_session::SessionError;
@@ -18,8 +18,9 @@ pub(crate) fn advance_part<W: Holds<Leases>>(
     alloc: Global,
     now: Instant,
 ) -> Result<(), AllocError>
-    ensures answer { ShownAt (W.part whole.old) (nanos_of now) result (W.part whole.new) }
+    ensures answer { Then (ShownAt (W.part whole.old) (nanos_of now) result) (W.part whole.new) }
     ensures leads { W.leads whole.old whole.new }
+    ensures keeps { (me : ℕ) → Keeps W.lists me whole.old whole.new }
 {
     whole.part_mut().advance(alloc, now)
 }
@@ -31,8 +32,9 @@ pub(crate) fn open_part<W: Holds<Leases>>(
     now: Instant,
     limit_ms: u64,
 ) -> Result<u64, SessionError>
-    ensures answer { Calls (W.part whole.old) (nanos_of now) (call.Open limit_ms) (of_number result) (W.part whole.new) }
+    ensures answer { Then (Calls (W.part whole.old) (nanos_of now) (call.Open limit_ms) (of_number result)) (W.part whole.new) }
     ensures leads { W.leads whole.old whole.new }
+    ensures keeps { (me : ℕ) → Keeps W.lists me whole.old whole.new }
 {
     whole.part_mut().open(alloc, now, limit_ms)
 }
@@ -44,8 +46,9 @@ pub(crate) fn beat_part<W: Holds<Leases>>(
     now: Instant,
     session: u64,
 ) -> Result<(), SessionError>
-    ensures answer { Calls (W.part whole.old) (nanos_of now) (call.Beat session) (of_done result) (W.part whole.new) }
+    ensures answer { Then (Calls (W.part whole.old) (nanos_of now) (call.Beat session) (of_done result)) (W.part whole.new) }
     ensures leads { W.leads whole.old whole.new }
+    ensures keeps { (me : ℕ) → Keeps W.lists me whole.old whole.new }
 {
     whole.part_mut().beat(alloc, now, session)
 }
@@ -57,8 +60,9 @@ pub(crate) fn close_part<W: Holds<Leases>>(
     now: Instant,
     session: u64,
 ) -> Result<(), SessionError>
-    ensures answer { Calls (W.part whole.old) (nanos_of now) (call.Close session) (of_done result) (W.part whole.new) }
+    ensures answer { Then (Calls (W.part whole.old) (nanos_of now) (call.Close session) (of_done result)) (W.part whole.new) }
     ensures leads { W.leads whole.old whole.new }
+    ensures keeps { (me : ℕ) → Keeps W.lists me whole.old whole.new }
 {
     whole.part_mut().close(alloc, now, session)
 }
@@ -71,8 +75,9 @@ pub(crate) fn release_part<W: Holds<Leases>>(
     session: u64,
     key: u64,
 ) -> Result<(), SessionError>
-    ensures answer { Calls (W.part whole.old) (nanos_of now) (call.Release session key) (of_done result) (W.part whole.new) }
+    ensures answer { Then (Calls (W.part whole.old) (nanos_of now) (call.Release session key) (of_done result)) (W.part whole.new) }
     ensures leads { W.leads whole.old whole.new }
+    ensures keeps { (me : ℕ) → Keeps W.lists me whole.old whole.new }
 {
     whole.part_mut().release(alloc, now, session, key)
 }
@@ -86,8 +91,9 @@ pub(crate) fn acquire_part<W: Holds<Leases>>(
     key: u64,
     task: u64,
 ) -> Claimed
-    ensures answer { Claims (W.part whole.old) (nanos_of now) session key task result (W.part whole.new) }
+    ensures answer { Then (Claims (W.part whole.old) (nanos_of now) session key task result) (W.part whole.new) }
     ensures leads { W.leads whole.old whole.new }
+    ensures keeps { (me : ℕ) → Keeps W.lists me whole.old whole.new }
 {
     whole.part_mut().acquire(alloc, now, session, key, task)
 }
@@ -102,8 +108,9 @@ pub(crate) fn look_part<W: Holds<Leases>>(
     key: u64,
     task: u64,
 ) -> Looked
-    ensures answer { Looks (W.part whole.old) (nanos_of now) ticket session key task result (W.part whole.new) }
+    ensures answer { Then (Looks (W.part whole.old) (nanos_of now) ticket session key task result) (W.part whole.new) }
     ensures leads { W.leads whole.old whole.new }
+    ensures keeps { Keeps W.lists task whole.old whole.new }
 {
     whole
         .part_mut()
@@ -111,34 +118,34 @@ pub(crate) fn look_part<W: Holds<Leases>>(
 }
 
 // Takes a future out of the line, and its session out of the queue.
-pub(crate) fn give_up_part<W: Holds<Leases>>(whole: &mut W, ticket: u64, session: u64, key: u64)
-    ensures answer { GivesUp (W.part whole.old) ticket session key (W.part whole.new) }
+pub(crate) fn give_up_part<W: Holds<Leases>>(
+    whole: &mut W,
+    ticket: u64,
+    session: u64,
+    key: u64,
+    me: u64,
+)
+    ensures answer { Then (GivesUp (W.part whole.old) ticket session key me) (W.part whole.new) }
     ensures leads { W.leads whole.old whole.new }
+    ensures keeps { Keeps W.lists me whole.old whole.new }
 {
-    whole.part_mut().give_up(ticket, session, key)
-}
-
-// Takes the first task out of the line whose session no longer waits.
-pub(crate) fn serve_part<W: Holds<Leases>>(whole: &mut W) -> Option<u64>
-    ensures answer { Serves (W.part whole.old) result (W.part whole.new) }
-    ensures fewer { OnSome result (deque_len (W.part whole.new).waiters < deque_len (W.part whole.old).waiters) }
-    ensures leads { W.leads whole.old whole.new }
-{
-    whole.part_mut().serve()
+    whole.part_mut().give_up(ticket, session, key, me)
 }
 
 // Notes the keeper's task.
 pub(crate) fn rest_part<W: Holds<Leases>>(whole: &mut W, task: u64) -> Option<u64>
     ensures answer { Rests (W.part whole.old) task result (W.part whole.new) }
     ensures leads { W.leads whole.old whole.new }
+    ensures keeps { (me : ℕ) → Keeps W.lists me whole.old whole.new }
 {
     whole.part_mut().rest(task)
 }
 
-// Returns the keeper's task, if it sleeps too long.
-pub(crate) fn rouse_part<W: Holds<Leases>>(whole: &mut W) -> Option<u64>
-    ensures answer { Rouses (W.part whole.old) result (W.part whole.new) }
+// Notes that a task is the keeper no longer.
+pub(crate) fn forget_part<W: Holds<Leases>>(whole: &mut W, task: u64)
+    ensures answer { Forgets (W.part whole.old) task (W.part whole.new) }
     ensures leads { W.leads whole.old whole.new }
+    ensures keeps { (me : ℕ) → Keeps W.lists me whole.old whole.new }
 {
-    whole.part_mut().rouse()
+    whole.part_mut().forget(task)
 }

@@ -11,7 +11,6 @@ pub mod locks;
 pub mod mail;
 mod mailboxes;
 mod receives;
-mod served;
 mod takes;
 mod wakes;
 

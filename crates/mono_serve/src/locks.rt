@@ -4,14 +4,13 @@ ghost use Rattle.std.specs.declared.option.Option.TheVariants.{None};
 ghost use Rattle.mono_model.specs.Poll.{OnPending};
 ghost use Rattle.mono_session.specs.Answers.{of_number, of_done};
 ghost use Rattle.mono_session.specs.Calls as call;
-ghost use Rattle.mono_serve.specs.LeaseCalls.{Calls, Claims, Looks, GivesUp};
-ghost use Rattle.mono_serve.specs.Locks.{CallsIn, AsksFor, LooksAgain, AcquirePolls, AcquireCancels};
+ghost use Rattle.mono_serve.specs.LeaseCalls.{Calls, Claims, Looks, GivesUp, Then};
+ghost use Rattle.mono_serve.specs.Locks.{CallsIn, LeavesLock, AsksFor, LooksAgain, AcquirePolls, AcquireCancels};
 
 use crate::lease_parts::{
     acquire_part, beat_part, close_part, give_up_part, look_part, open_part, release_part,
 };
 use crate::leases::{Claimed, Leases, Looked};
-use crate::served::wake_served;
 use mono_model::{Host, Poll};
 use mono_session::SessionError;
 use mono_sync::Holds;
@@ -65,7 +64,7 @@ fn open_now<W: Holds<Leases>, C: SharedContext<W>>(
     cx: &mut C,
     limit_ms: u64,
 ) -> Result<u64, SessionError>
-    ensures answer { Calls (W.part (C.shared cx.old)) (C.nanos cx.old) (call.Open limit_ms) (of_number result) (W.part (C.shared cx.new)) }
+    ensures answer { Then (Calls (W.part (C.shared cx.old)) (C.nanos cx.old) (call.Open limit_ms) (of_number result)) (W.part (C.shared cx.new)) }
     ensures work { C.work cx.new ≡ C.work cx.old }
     ensures reached { C.reaches cx.old cx.new }
 {
@@ -79,7 +78,7 @@ fn beat_now<W: Holds<Leases>, C: SharedContext<W>>(
     cx: &mut C,
     session: u64,
 ) -> Result<(), SessionError>
-    ensures answer { Calls (W.part (C.shared cx.old)) (C.nanos cx.old) (call.Beat session) (of_done result) (W.part (C.shared cx.new)) }
+    ensures answer { Then (Calls (W.part (C.shared cx.old)) (C.nanos cx.old) (call.Beat session) (of_done result)) (W.part (C.shared cx.new)) }
     ensures work { C.work cx.new ≡ C.work cx.old }
     ensures reached { C.reaches cx.old cx.new }
 {
@@ -93,7 +92,7 @@ fn close_now<W: Holds<Leases>, C: SharedContext<W>>(
     cx: &mut C,
     session: u64,
 ) -> Result<(), SessionError>
-    ensures answer { Calls (W.part (C.shared cx.old)) (C.nanos cx.old) (call.Close session) (of_done result) (W.part (C.shared cx.new)) }
+    ensures answer { Then (Calls (W.part (C.shared cx.old)) (C.nanos cx.old) (call.Close session) (of_done result)) (W.part (C.shared cx.new)) }
     ensures work { C.work cx.new ≡ C.work cx.old }
     ensures reached { C.reaches cx.old cx.new }
 {
@@ -108,7 +107,7 @@ fn release_now<W: Holds<Leases>, C: SharedContext<W>>(
     session: u64,
     key: u64,
 ) -> Result<(), SessionError>
-    ensures answer { Calls (W.part (C.shared cx.old)) (C.nanos cx.old) (call.Release session key) (of_done result) (W.part (C.shared cx.new)) }
+    ensures answer { Then (Calls (W.part (C.shared cx.old)) (C.nanos cx.old) (call.Release session key) (of_done result)) (W.part (C.shared cx.new)) }
     ensures work { C.work cx.new ≡ C.work cx.old }
     ensures reached { C.reaches cx.old cx.new }
 {
@@ -116,62 +115,56 @@ fn release_now<W: Holds<Leases>, C: SharedContext<W>>(
     release_part(cx.shared_mut(), alloc, now, session, key)
 }
 
-/// Opens a session at the turn's reading of the clock, as [`Leases::open`] does, and wakes the tasks that are served.
+/// Opens a session at the turn's reading of the clock, as [`Leases::open`] does. The tasks that are served are owed a wake.
 pub fn open<W: Holds<Leases>, C: SharedContext<W>>(
     alloc: Global,
     cx: &mut C,
     limit_ms: u64,
 ) -> Result<u64, SessionError>
-    ensures calls { CallsIn (λ x. W.part (C.shared x)) C.nanos C.work C.reaches (call.Open limit_ms) (of_number result) cx.old cx.new }
+    ensures calls { CallsIn (λ x. W.part (C.shared x)) C.nanos C.work (call.Open limit_ms) (of_number result) cx.old cx.new }
     ensures reached { C.reaches cx.old cx.new }
 {
-    let answer = open_now::<W, C>(alloc, cx, limit_ms);
-    wake_served::<W, C>(cx);
-    answer
+    open_now::<W, C>(alloc, cx, limit_ms)
 }
 
-/// Renews a session at the turn's reading of the clock, as [`Leases::beat`] does, and wakes the tasks that are served.
+/// Renews a session at the turn's reading of the clock, as [`Leases::beat`] does. The tasks that are served are owed a
+/// wake.
 pub fn beat<W: Holds<Leases>, C: SharedContext<W>>(
     alloc: Global,
     cx: &mut C,
     session: u64,
 ) -> Result<(), SessionError>
-    ensures calls { CallsIn (λ x. W.part (C.shared x)) C.nanos C.work C.reaches (call.Beat session) (of_done result) cx.old cx.new }
+    ensures calls { CallsIn (λ x. W.part (C.shared x)) C.nanos C.work (call.Beat session) (of_done result) cx.old cx.new }
     ensures reached { C.reaches cx.old cx.new }
 {
-    let answer = beat_now::<W, C>(alloc, cx, session);
-    wake_served::<W, C>(cx);
-    answer
+    beat_now::<W, C>(alloc, cx, session)
 }
 
-/// Closes a session at the turn's reading of the clock, as [`Leases::close`] does, and wakes the tasks that are served.
+/// Closes a session at the turn's reading of the clock, as [`Leases::close`] does. The tasks that are served are owed a
+/// wake.
 pub fn close<W: Holds<Leases>, C: SharedContext<W>>(
     alloc: Global,
     cx: &mut C,
     session: u64,
 ) -> Result<(), SessionError>
-    ensures calls { CallsIn (λ x. W.part (C.shared x)) C.nanos C.work C.reaches (call.Close session) (of_done result) cx.old cx.new }
+    ensures calls { CallsIn (λ x. W.part (C.shared x)) C.nanos C.work (call.Close session) (of_done result) cx.old cx.new }
     ensures reached { C.reaches cx.old cx.new }
 {
-    let answer = close_now::<W, C>(alloc, cx, session);
-    wake_served::<W, C>(cx);
-    answer
+    close_now::<W, C>(alloc, cx, session)
 }
 
-/// Releases a key at the turn's reading of the clock, as [`Leases::release`] does, and wakes the tasks that are served:
-/// the next holder, if it waits.
+/// Releases a key at the turn's reading of the clock, as [`Leases::release`] does. The tasks that are served are owed a
+/// wake: the next holder's, if it waits.
 pub fn release<W: Holds<Leases>, C: SharedContext<W>>(
     alloc: Global,
     cx: &mut C,
     session: u64,
     key: u64,
 ) -> Result<(), SessionError>
-    ensures calls { CallsIn (λ x. W.part (C.shared x)) C.nanos C.work C.reaches (call.Release session key) (of_done result) cx.old cx.new }
+    ensures calls { CallsIn (λ x. W.part (C.shared x)) C.nanos C.work (call.Release session key) (of_done result) cx.old cx.new }
     ensures reached { C.reaches cx.old cx.new }
 {
-    let answer = release_now::<W, C>(alloc, cx, session, key);
-    wake_served::<W, C>(cx);
-    answer
+    release_now::<W, C>(alloc, cx, session, key)
 }
 
 // Appends the session to the queue of the key, for the running task.
@@ -181,7 +174,7 @@ fn claim<W: Holds<Leases>, C: SharedContext<W>>(
     session: u64,
     key: u64,
 ) -> Claimed
-    ensures answer { Claims (W.part (C.shared cx.old)) (C.nanos cx.old) session key (C.number cx.old) result (W.part (C.shared cx.new)) }
+    ensures answer { Then (Claims (W.part (C.shared cx.old)) (C.nanos cx.old) session key (C.number cx.old) result) (W.part (C.shared cx.new)) }
     ensures work { C.work cx.new ≡ C.work cx.old }
     ensures reached { C.reaches cx.old cx.new }
 {
@@ -198,7 +191,7 @@ fn look<W: Holds<Leases>, C: SharedContext<W>>(
     session: u64,
     key: u64,
 ) -> Looked
-    ensures answer { Looks (W.part (C.shared cx.old)) (C.nanos cx.old) ticket session key (C.number cx.old) result (W.part (C.shared cx.new)) }
+    ensures answer { Then (Looks (W.part (C.shared cx.old)) (C.nanos cx.old) ticket session key (C.number cx.old) result) (W.part (C.shared cx.new)) }
     ensures work { C.work cx.new ≡ C.work cx.old }
     ensures reached { C.reaches cx.old cx.new }
 {
@@ -209,11 +202,20 @@ fn look<W: Holds<Leases>, C: SharedContext<W>>(
 
 // Takes the running task's future out of the line, and its session out of the queue.
 fn give_up<W: Holds<Leases>, C: SharedContext<W>>(cx: &mut C, ticket: u64, session: u64, key: u64)
-    ensures answer { GivesUp (W.part (C.shared cx.old)) ticket session key (W.part (C.shared cx.new)) }
+    ensures answer { Then (GivesUp (W.part (C.shared cx.old)) ticket session key (C.number cx.old)) (W.part (C.shared cx.new)) }
     ensures work { C.work cx.new ≡ C.work cx.old }
     ensures reached { C.reaches cx.old cx.new }
 {
-    give_up_part(cx.shared_mut(), ticket, session, key)
+    let me = cx.me();
+    give_up_part(cx.shared_mut(), ticket, session, key, me)
+}
+
+// Takes the running task's future out of the line and out of the queue, and says so in one clause.
+fn drop_out<W: Holds<Leases>, C: SharedContext<W>>(cx: &mut C, ticket: u64, session: u64, key: u64)
+    ensures left { LeavesLock (λ x. W.part (C.shared x)) C.number C.work ticket session key cx.old cx.new }
+    ensures reached { C.reaches cx.old cx.new }
+{
+    give_up::<W, C>(cx, ticket, session, key);
 }
 
 impl<W> Acquire<W> {
@@ -225,12 +227,11 @@ impl<W> Acquire<W> {
     ) -> Poll<Result<(), AcquireError>>
     where
         W: Holds<Leases>,
-        ensures asks { AsksFor (λ x. W.part (C.shared x)) C.number C.nanos C.work C.reaches self.old.session self.old.key cx.old result self.new.ticket cx.new }
+        ensures asks { AsksFor (λ x. W.part (C.shared x)) C.number C.nanos C.work self.old.session self.old.key cx.old result self.new.ticket cx.new }
         ensures again { OnPending result (self.new.has_answered ≡ false) }
         ensures reached { C.reaches cx.old cx.new }
     {
         let answer = claim::<W, C>(alloc, cx, self.session, self.key);
-        wake_served::<W, C>(cx);
         match answer {
             Claimed::Waits(ticket) => {
                 self.ticket = Some(ticket);
@@ -259,14 +260,13 @@ impl<W> Acquire<W> {
     ) -> Poll<Result<(), AcquireError>>
     where
         W: Holds<Leases>,
-        ensures looks { LooksAgain (λ x. W.part (C.shared x)) C.number C.nanos C.work C.reaches ticket self.old.session self.old.key cx.old result self.new.ticket cx.new }
+        ensures looks { LooksAgain (λ x. W.part (C.shared x)) C.number C.nanos C.work ticket self.old.session self.old.key cx.old result self.new.ticket cx.new }
         ensures again { OnPending result (self.new.has_answered ≡ false) }
         ensures reached { C.reaches cx.old cx.new }
     {
         let answer = look::<W, C>(alloc, cx, ticket, self.session, self.key);
-        wake_served::<W, C>(cx);
         match answer {
-            Looked::Waits => {
+            Looked::Waits(ticket) => {
                 self.ticket = Some(ticket);
                 self.has_answered = false;
                 Poll::Pending
@@ -297,9 +297,9 @@ impl<W: Holds<Leases>, C: SharedContext<W>> TaskFuture<C> for Acquire<W> {
 
     ghost is_spent = { λ f. f.has_answered };
 
-    ghost polls = { λ f c r g d. AcquirePolls (λ x. W.part (C.shared x)) C.number C.nanos C.work C.reaches f.ticket f.session f.key c r g.ticket d };
+    ghost polls = { λ f c r g d. AcquirePolls (λ x. W.part (C.shared x)) C.number C.nanos C.work f.ticket f.session f.key c r g.ticket d };
 
-    ghost cancels = { λ f c d. AcquireCancels (λ x. W.part (C.shared x)) C.work C.reaches f.ticket f.session f.key c d };
+    ghost cancels = { λ f c d. AcquireCancels (λ x. W.part (C.shared x)) C.number C.work f.ticket f.session f.key c d };
 
     fn spent(&self) -> bool {
         self.has_answered
@@ -319,8 +319,7 @@ impl<W: Holds<Leases>, C: SharedContext<W>> TaskFuture<C> for Acquire<W> {
 
     fn cancel(self, cx: &mut C) {
         if let Some(ticket) = self.ticket {
-            give_up::<W, C>(cx, ticket, self.session, self.key);
-            wake_served::<W, C>(cx);
+            drop_out::<W, C>(cx, ticket, self.session, self.key);
         }
     }
 }

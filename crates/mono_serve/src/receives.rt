@@ -1,10 +1,10 @@
 // A future that receives a message to an actor.
 ghost use Rattle.std.specs.Prelude.{◌≡◌, false};
 ghost use Rattle.std.specs.declared.option.Option.TheVariants.{None};
-ghost use Rattle.mono_serve.specs.Mail.{IsLimited, ReceivePolls, ReceiveCancels};
+ghost use Rattle.mono_serve.specs.Mail.{IsLimited, Leaves, ReceivePolls, ReceiveCancels};
 ghost use Rattle.mono_serve.specs.MailCalls.{Receives, GivesUp};
+ghost use Rattle.mono_task.specs.Owed.{Keeps};
 
-use crate::mail::wake_receivers;
 use crate::mailboxes::{Mailboxes, Received};
 use mono_actor::ActorError;
 use mono_model::{Host, Poll};
@@ -17,7 +17,8 @@ use std::time::Duration;
 
 /// A future that waits for a message to an actor, and takes the first of its mailbox, with its sender.
 ///
-/// Futures of one actor share its messages: each message goes to one of them.
+/// Futures of one actor share its messages: each message goes to one of them, first come, first served. A future that is
+/// polled by another task waits anew at the line's end.
 #[derive(Drop)]
 pub struct Receive<W, M> {
     pub(crate) actor: u64,
@@ -60,16 +61,18 @@ fn receive_part<M: Drop, W: Holds<Mailboxes<M>>>(
 ) -> Received<M>
     ensures answer { Receives (W.part whole.old) ticket actor task result (W.part whole.new) }
     ensures leads { W.leads whole.old whole.new }
+    ensures keeps { Keeps W.lists task whole.old whole.new }
 {
     whole.part_mut().receive(ticket, actor, task)
 }
 
 // Takes a future out of the line.
-fn give_up_part<M, W: Holds<Mailboxes<M>>>(whole: &mut W, ticket: u64)
-    ensures answer { GivesUp (W.part whole.old) ticket (W.part whole.new) }
+fn give_up_part<M, W: Holds<Mailboxes<M>>>(whole: &mut W, ticket: u64, me: u64)
+    ensures answer { GivesUp (W.part whole.old) ticket me (W.part whole.new) }
     ensures leads { W.leads whole.old whole.new }
+    ensures keeps { Keeps W.lists me whole.old whole.new }
 {
-    whole.part_mut().give_up(ticket)
+    whole.part_mut().give_up(ticket, me)
 }
 
 // Asks for a message, for the running task.
@@ -88,11 +91,20 @@ fn ask<M: Drop, W: Holds<Mailboxes<M>>, C: SharedContext<W>>(
 
 // Takes the running task's future out of the line.
 fn leave<M, W: Holds<Mailboxes<M>>, C: SharedContext<W>>(cx: &mut C, ticket: u64)
-    ensures answer { GivesUp (W.part (C.shared cx.old)) ticket (W.part (C.shared cx.new)) }
+    ensures answer { GivesUp (W.part (C.shared cx.old)) ticket (C.number cx.old) (W.part (C.shared cx.new)) }
     ensures work { C.work cx.new ≡ C.work cx.old }
     ensures reached { C.reaches cx.old cx.new }
 {
-    give_up_part::<M, W>(cx.shared_mut(), ticket)
+    let me = cx.me();
+    give_up_part::<M, W>(cx.shared_mut(), ticket, me)
+}
+
+// Takes the running task's future out of the line, and says so in one clause.
+fn drop_out<M, W: Holds<Mailboxes<M>>, C: SharedContext<W>>(cx: &mut C, ticket: u64)
+    ensures left { Leaves (λ x. W.part (C.shared x)) C.number C.work ticket cx.old cx.new }
+    ensures reached { C.reaches cx.old cx.new }
+{
+    leave::<M, W, C>(cx, ticket);
 }
 
 /// The future answers with the first message of its actor, or fails if no live actor has the number or if out of memory.
@@ -101,9 +113,9 @@ impl<M: Drop, W: Holds<Mailboxes<M>>, C: SharedContext<W>> TaskFuture<C> for Rec
 
     ghost is_spent = { λ f. f.has_answered };
 
-    ghost polls = { λ f c r g d. ReceivePolls (λ x. W.part (C.shared x)) C.number C.work C.reaches f.ticket f.actor c r g.ticket d };
+    ghost polls = { λ f c r g d. ReceivePolls (λ x. W.part (C.shared x)) C.number C.work f.ticket f.actor c r g.ticket d };
 
-    ghost cancels = { λ f c d. ReceiveCancels (λ x. W.part (C.shared x)) C.work C.reaches f.ticket c d };
+    ghost cancels = { λ f c d. ReceiveCancels (λ x. W.part (C.shared x)) C.number C.work f.ticket c d };
 
     fn spent(&self) -> bool {
         self.has_answered
@@ -116,7 +128,6 @@ impl<M: Drop, W: Holds<Mailboxes<M>>, C: SharedContext<W>> TaskFuture<C> for Rec
         cx: &mut C,
     ) -> Poll<Result<(u64, M), ActorError>> {
         let answer = ask::<M, W, C>(cx, self.ticket, self.actor);
-        wake_receivers::<M, W, C>(cx);
         match answer {
             Received::Waits(ticket) => {
                 self.ticket = Some(ticket);
@@ -137,8 +148,7 @@ impl<M: Drop, W: Holds<Mailboxes<M>>, C: SharedContext<W>> TaskFuture<C> for Rec
 
     fn cancel(self, cx: &mut C) {
         if let Some(ticket) = self.ticket {
-            leave::<M, W, C>(cx, ticket);
-            wake_receivers::<M, W, C>(cx);
+            drop_out::<M, W, C>(cx, ticket);
         }
     }
 }

@@ -1,13 +1,14 @@
 // A take of tokens as a future.
-ghost use Rattle.std.specs.Prelude.{◌≡◌, false};
+ghost use Rattle.std.specs.Prelude.{◌≡◌, false, ℕ};
 ghost use Rattle.std.specs.Option.{option_map};
 ghost use Rattle.std.specs.declared.option.Option.TheVariants.{None};
 ghost use Rattle.mono_model.specs.Poll.{OnPending};
-ghost use Rattle.mono_model.specs.Tasks.{woken, woken_if_any};
+ghost use Rattle.mono_model.specs.Tasks.{woken};
 ghost use Rattle.mono_time.specs.Instants.{nanos_of};
 ghost use Rattle.mono_serve.specs.BucketCalls.{Enters, Asks, GivesUp};
 ghost use Rattle.mono_serve.specs.Takes.{deadline_of, is_over, MayGoOn, LeavesLine, FailsAwake, Naps, FirstNap, MakesSleep, Rests, AsksFor, GoesOn, TakePolls, TakeCancels};
 ghost use Rattle.mono_serve.specs.declared.takes.Stage.TheVariants.{Fresh};
+ghost use Rattle.mono_task.specs.Owed.{Keeps};
 
 use crate::buckets::{Asked, Buckets};
 use mono_limit::LimitError;
@@ -22,7 +23,7 @@ use std::mem;
 /// A future that takes tokens of a bucket, and waits until the bucket has them.
 ///
 /// It waits until no earlier future waits for the bucket. Then it sleeps exactly until the tick at which the bucket has
-/// the tokens. Each poll makes the running task wait in the future's place in the line.
+/// the tokens. It keeps its place in the line while the same task polls it. Polled by another task, it waits anew at the end.
 #[derive(Drop)]
 pub struct Take<W> {
     pub(crate) bucket: u64,
@@ -89,6 +90,7 @@ fn enter_part<W: Holds<Buckets>>(
 ) -> Result<u64, AllocError>
     ensures answer { Enters (W.part whole.old) ticket bucket task result (W.part whole.new) }
     ensures leads { W.leads whole.old whole.new }
+    ensures keeps { Keeps W.lists task whole.old whole.new }
 {
     whole.part_mut().enter(ticket, bucket, task)
 }
@@ -101,19 +103,22 @@ fn ask_part<W: Holds<Buckets>>(
     ticket: u64,
     bucket: u64,
     n: u64,
+    me: u64,
 ) -> Asked
-    ensures answer { Asks (W.part whole.old) (nanos_of now) ticket bucket n result (W.part whole.new) }
+    ensures answer { Asks (W.part whole.old) (nanos_of now) ticket bucket n me result (W.part whole.new) }
     ensures leads { W.leads whole.old whole.new }
+    ensures keeps { Keeps W.lists me whole.old whole.new }
 {
-    whole.part_mut().ask(alloc, now, ticket, bucket, n)
+    whole.part_mut().ask(alloc, now, ticket, bucket, n, me)
 }
 
 // Takes a future out of the line.
-fn leave_part<W: Holds<Buckets>>(whole: &mut W, ticket: u64, bucket: u64) -> Option<u64>
-    ensures answer { GivesUp (W.part whole.old) ticket bucket result (W.part whole.new) }
+fn leave_part<W: Holds<Buckets>>(whole: &mut W, ticket: u64, me: u64)
+    ensures answer { GivesUp (W.part whole.old) ticket me (W.part whole.new) }
     ensures leads { W.leads whole.old whole.new }
+    ensures keeps { Keeps W.lists me whole.old whole.new }
 {
-    whole.part_mut().give_up(ticket, bucket)
+    whole.part_mut().give_up(ticket, me)
 }
 
 // Makes the running task wait in a future's place in the line.
@@ -138,36 +143,23 @@ fn ask<W: Holds<Buckets>, C: SharedContext<W>>(
     bucket: u64,
     n: u64,
 ) -> Asked
-    ensures answer { Asks (W.part (C.shared cx.old)) (C.nanos cx.old) ticket bucket n result (W.part (C.shared cx.new)) }
+    ensures answer { Asks (W.part (C.shared cx.old)) (C.nanos cx.old) ticket bucket n (C.number cx.old) result (W.part (C.shared cx.new)) }
     ensures work { C.work cx.new ≡ C.work cx.old }
     ensures reached { C.reaches cx.old cx.new }
 {
     let now = Instant::now(cx);
-    ask_part(cx.shared_mut(), alloc, now, ticket, bucket, n)
+    let me = cx.me();
+    ask_part(cx.shared_mut(), alloc, now, ticket, bucket, n, me)
 }
 
 // Takes the running task's future out of the line.
-fn leave<W: Holds<Buckets>, C: SharedContext<W>>(
-    cx: &mut C,
-    ticket: u64,
-    bucket: u64,
-) -> Option<u64>
-    ensures answer { GivesUp (W.part (C.shared cx.old)) ticket bucket result (W.part (C.shared cx.new)) }
+fn leave<W: Holds<Buckets>, C: SharedContext<W>>(cx: &mut C, ticket: u64)
+    ensures answer { GivesUp (W.part (C.shared cx.old)) ticket (C.number cx.old) (W.part (C.shared cx.new)) }
     ensures work { C.work cx.new ≡ C.work cx.old }
     ensures reached { C.reaches cx.old cx.new }
 {
-    leave_part(cx.shared_mut(), ticket, bucket)
-}
-
-// Wakes the task, if any.
-fn wake<W: Holds<Buckets>, C: SharedContext<W>>(cx: &mut C, task: Option<u64>)
-    ensures part { W.part (C.shared cx.new) ≡ W.part (C.shared cx.old) }
-    ensures work { C.work cx.new ≡ woken_if_any (C.work cx.old) task }
-    ensures reached { C.reaches cx.old cx.new }
-{
-    if let Some(task) = task {
-        let _ = cx.wake(task);
-    }
+    let me = cx.me();
+    leave_part(cx.shared_mut(), ticket, me)
 }
 
 // Queues the running task again after its turn.
@@ -180,13 +172,12 @@ fn again<W: Holds<Buckets>, C: SharedContext<W>>(cx: &mut C)
     let _ = cx.wake(me);
 }
 
-// Takes the running task's future out of the line, and wakes the task that is the first from now on.
-fn give_way<W: Holds<Buckets>, C: SharedContext<W>>(cx: &mut C, ticket: u64, bucket: u64)
-    ensures left { LeavesLine (λ x. W.part (C.shared x)) C.work ticket bucket cx.old cx.new }
+// Takes the running task's future out of the line, and says so in one clause.
+fn give_way<W: Holds<Buckets>, C: SharedContext<W>>(cx: &mut C, ticket: u64)
+    ensures left { LeavesLine (λ x. W.part (C.shared x)) C.number C.work ticket cx.old cx.new }
     ensures reached { C.reaches cx.old cx.new }
 {
-    let next = leave::<W, C>(cx, ticket, bucket);
-    wake::<W, C>(cx, next);
+    leave::<W, C>(cx, ticket);
 }
 
 impl<W> Take<W> {
@@ -200,14 +191,14 @@ impl<W> Take<W> {
     ) -> Option<Poll<Result<(), TakeError>>>
     where
         W: Holds<Buckets>,
-        ensures fails { FailsAwake (λ x. W.part (C.shared x)) C.sleeps C.work C.reaches (TakeError.Timer (SleepError.Timer error)) ticket self.old.bucket sleep cx.old result self.new.stage cx.new }
+        ensures fails { FailsAwake (λ x. W.part (C.shared x)) C.number C.sleeps C.work C.reaches (TakeError.Timer (SleepError.Timer error)) ticket sleep cx.old result self.new.stage cx.new }
         ensures again { MayGoOn result (is_over self.new.stage ≡ false) }
         ensures bucket { self.new.bucket ≡ self.old.bucket }
         ensures n { self.new.n ≡ self.old.n }
         ensures reached { C.reaches cx.old cx.new }
     {
         sleep.cancel(cx);
-        give_way::<W, C>(cx, ticket, self.bucket);
+        give_way::<W, C>(cx, ticket);
         self.stage = Stage::Over;
         Some(Poll::Ready(Err(TakeError::Timer(SleepError::Timer(error)))))
     }
@@ -223,7 +214,7 @@ impl<W> Take<W> {
     ) -> Option<Poll<Result<(), TakeError>>>
     where
         W: Holds<Buckets>,
-        ensures naps { Naps (λ x. W.part (C.shared x)) C.number C.sleeps C.work C.reaches ticket self.old.bucket sleep cx.old result self.new.stage cx.new }
+        ensures naps { Naps (λ x. W.part (C.shared x)) C.number C.sleeps C.work C.reaches ticket sleep cx.old result self.new.stage cx.new }
         ensures again { MayGoOn result (is_over self.new.stage ≡ false) }
         ensures bucket { self.new.bucket ≡ self.old.bucket }
         ensures n { self.new.n ≡ self.old.n }
@@ -255,7 +246,7 @@ impl<W> Take<W> {
     ) -> Poll<Result<(), TakeError>>
     where
         W: Holds<Buckets>,
-        ensures naps { FirstNap (λ x. W.part (C.shared x)) C.number C.sleeps C.work C.reaches ticket self.old.bucket sleep cx.old result self.new.stage cx.new }
+        ensures naps { FirstNap (λ x. W.part (C.shared x)) C.number C.sleeps C.work C.reaches ticket sleep cx.old result self.new.stage cx.new }
         ensures again { OnPending result (is_over self.new.stage ≡ false) }
         ensures reached { C.reaches cx.old cx.new }
     {
@@ -279,13 +270,13 @@ impl<W> Take<W> {
     ) -> Poll<Result<(), TakeError>>
     where
         W: Holds<Buckets>,
-        ensures rests { Rests (λ x. W.part (C.shared x)) C.number C.sleeps C.work C.reaches (deadline_of tick) ticket self.old.bucket cx.old result self.new.stage cx.new }
+        ensures rests { Rests (λ x. W.part (C.shared x)) C.number C.sleeps C.work C.reaches (deadline_of tick) ticket cx.old result self.new.stage cx.new }
         ensures again { OnPending result (is_over self.new.stage ≡ false) }
         ensures reached { C.reaches cx.old cx.new }
     {
         match deadline_of(tick) {
             None => {
-                give_way::<W, C>(cx, ticket, self.bucket);
+                give_way::<W, C>(cx, ticket);
                 self.stage = Stage::Over;
                 Poll::Ready(Err(TakeError::Far))
             }
@@ -304,14 +295,14 @@ impl<W> Take<W> {
     ) -> Poll<Result<(), TakeError>>
     where
         W: Holds<Buckets>,
-        ensures makes { MakesSleep (λ x. W.part (C.shared x)) C.number C.sleeps C.work C.reaches (nanos_of deadline) ticket self.old.bucket cx.old result self.new.stage cx.new }
+        ensures makes { MakesSleep (λ x. W.part (C.shared x)) C.number C.sleeps C.work C.reaches (nanos_of deadline) ticket cx.old result self.new.stage cx.new }
         ensures again { OnPending result (is_over self.new.stage ≡ false) }
         ensures reached { C.reaches cx.old cx.new }
     {
         match sleep_until(alloc, cx, deadline) {
             Ok(sleep) => self.first_nap(rt, alloc, cx, ticket, sleep),
             Err(error) => {
-                give_way::<W, C>(cx, ticket, self.bucket);
+                give_way::<W, C>(cx, ticket);
                 self.stage = Stage::Over;
                 Poll::Ready(Err(TakeError::Timer(error)))
             }
@@ -337,13 +328,11 @@ impl<W> Take<W> {
                 self.stage = Stage::Waits(ticket);
                 Poll::Pending
             }
-            Asked::Granted(next) => {
-                wake::<W, C>(cx, next);
+            Asked::Granted => {
                 self.stage = Stage::Over;
                 Poll::Ready(Ok(()))
             }
-            Asked::Refused(error, next) => {
-                wake::<W, C>(cx, next);
+            Asked::Refused(error) => {
                 self.stage = Stage::Over;
                 Poll::Ready(Err(TakeError::Refused(error)))
             }
@@ -384,7 +373,7 @@ impl<W: Holds<Buckets>, C: TimeContext + SharedContext<W>> TaskFuture<C> for Tak
 
     ghost polls = { λ f c r g d. TakePolls (λ x. W.part (C.shared x)) C.number C.nanos C.sleeps C.work C.reaches f.stage f.bucket f.n c r g.stage d };
 
-    ghost cancels = { λ f c d. TakeCancels (λ x. W.part (C.shared x)) C.sleeps C.work C.reaches f.stage f.bucket c d };
+    ghost cancels = { λ f c d. TakeCancels (λ x. W.part (C.shared x)) C.number C.sleeps C.work C.reaches f.stage c d };
 
     fn spent(&self) -> bool {
         match &self.stage {
@@ -409,10 +398,10 @@ impl<W: Holds<Buckets>, C: TimeContext + SharedContext<W>> TaskFuture<C> for Tak
 
     fn cancel(self, cx: &mut C) {
         match self.stage {
-            Stage::Waits(ticket) => give_way::<W, C>(cx, ticket, self.bucket),
+            Stage::Waits(ticket) => give_way::<W, C>(cx, ticket),
             Stage::Sleeps(ticket, sleep) => {
                 sleep.cancel(cx);
-                give_way::<W, C>(cx, ticket, self.bucket);
+                give_way::<W, C>(cx, ticket);
             }
             Stage::Fresh => {}
             Stage::Over => {}

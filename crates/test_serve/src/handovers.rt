@@ -1,4 +1,5 @@
-// A future that a second task polls waits for that task from then on, in the place that it had.
+// A future that a second task polls waits for that task from then on, at the line's end. The first task is woken.
+use mono_rt::SharedState;
 use mono_serve::{Claimed, Leases, Looked, Mailboxes, Received};
 use mono_time::Instant;
 use std::alloc::Global;
@@ -16,8 +17,16 @@ fn waits_for_key(leases: &mut Leases, alloc: Global, session: u64, task: u64) ->
     }
 }
 
-// Lets tasks 1 and 2 wait for a key, and task 3 in the place of the first. Returns the tasks that are woken in turn.
-fn woken_for_key(leases: &mut Leases, alloc: Global) -> Option<[Option<u64>; 2]> {
+// Takes the next three tasks that are owed a wake.
+fn handed<S: SharedState>(shared: &mut S) -> [Option<u64>; 3] {
+    let first = shared.next_owed();
+    let second = shared.next_owed();
+    [first, second, shared.next_owed()]
+}
+
+// Lets tasks 1 and 2 wait for a key, and lets task 3 poll the future of the first. Returns the tasks that are woken once
+// the holder releases the key, and those once the first session does.
+fn woken_for_key(leases: &mut Leases, alloc: Global) -> Option<[[Option<u64>; 3]; 2]> {
     let holder = opened(leases, alloc)?;
     let first = opened(leases, alloc)?;
     let second = opened(leases, alloc)?;
@@ -26,13 +35,13 @@ fn woken_for_key(leases: &mut Leases, alloc: Global) -> Option<[Option<u64>; 2]>
     }
     let ticket = waits_for_key(leases, alloc, first, 1)?;
     waits_for_key(leases, alloc, second, 2)?;
-    if leases.look(alloc, Instant::ZERO, ticket, first, 7, 3) != Looked::Waits {
+    if leases.look(alloc, Instant::ZERO, ticket, first, 7, 3) != Looked::Waits(2) {
         return None;
     }
     leases.release(alloc, Instant::ZERO, holder, 7).ok()?;
-    let next = leases.serve();
+    let next = handed(leases);
     leases.release(alloc, Instant::ZERO, first, 7).ok()?;
-    Some([next, leases.serve()])
+    Some([next, handed(leases)])
 }
 
 // Asks for a message, for a task, and returns the ticket of the wait.
@@ -48,25 +57,57 @@ fn waits_for_message(
     }
 }
 
-// Does the same for messages to one actor.
-fn woken_for_message(mail: &mut Mailboxes<u64>, alloc: Global) -> Option<[Option<u64>; 2]> {
+// Lets tasks 1 and 2 wait for a message, and lets task 3 poll the future of the first. Returns the tasks that are woken
+// once a message comes, and the answers to tasks 3 and 2.
+fn woken_for_message(
+    mail: &mut Mailboxes<u64>,
+    alloc: Global,
+) -> Option<([Option<u64>; 3], Received<u64>, Received<u64>)> {
     let actor = mail.spawn(alloc).ok()?;
-    let ticket = waits_for_message(mail, None, actor, 1)?;
-    waits_for_message(mail, None, actor, 2)?;
-    waits_for_message(mail, Some(ticket), actor, 3)?;
+    let first = waits_for_message(mail, None, actor, 1)?;
+    let second = waits_for_message(mail, None, actor, 2)?;
+    let third = waits_for_message(mail, Some(first), actor, 3)?;
     mail.send(actor, actor, 5).ok()?;
-    let next = mail.serve();
-    Some([next, mail.serve()])
+    let next = handed(mail);
+    let waits = mail.receive(Some(third), actor, 3);
+    Some((next, waits, mail.receive(Some(second), actor, 2)))
 }
 
 #[test]
 fn key_goes_to_the_task_that_polled_last(rt: HostRuntime) {
     let mut leases = Leases::new(rt.alloc(), 3, 3).expect(&rt, "memory");
-    assert!(rt; woken_for_key(&mut leases, rt.alloc()) == Some([Some(3), Some(2)]));
+    assert!(rt;
+        woken_for_key(&mut leases, rt.alloc())
+            == Some([[Some(1), Some(3), None], [Some(2), None, None]])
+    );
 }
 
+// The message goes to the task that came first and waits on. No later one overtakes it.
 #[test]
-fn message_goes_to_the_task_that_polled_last(rt: HostRuntime) {
+fn message_goes_to_the_task_that_came_first(rt: HostRuntime) {
     let mut mail: Mailboxes<u64> = Mailboxes::new(rt.alloc(), 1, 1).expect(&rt, "memory");
-    assert!(rt; woken_for_message(&mut mail, rt.alloc()) == Some([Some(3), Some(2)]));
+    assert!(rt;
+        woken_for_message(&mut mail, rt.alloc())
+            == Some((
+                [Some(1), Some(2), None],
+                Received::Waits(2),
+                Received::Got(0, 5)
+            ))
+    );
+}
+
+// A task that comes after a message was sent does not overtake the one that was called for it.
+#[test]
+fn late_receiver_does_not_overtake(rt: HostRuntime) {
+    let mut mail: Mailboxes<u64> = Mailboxes::new(rt.alloc(), 1, 2).expect(&rt, "memory");
+    let actor = mail.spawn(rt.alloc()).expect(&rt, "an actor");
+    assert!(rt; matches!(mail.receive(None, actor, 1), Received::Waits(0)));
+    assert!(rt; mail.send(actor, actor, 5).is_ok());
+    assert!(rt; matches!(mail.receive(None, actor, 2), Received::Waits(1)));
+    assert!(rt; mail.send(actor, actor, 6).is_ok());
+    assert_eq!(rt; mail.next_owed(), Some(1));
+    assert_eq!(rt; mail.next_owed(), None);
+    assert!(rt; matches!(mail.receive(Some(0), actor, 1), Received::Got(0, 5)));
+    assert_eq!(rt; mail.next_owed(), Some(2));
+    assert!(rt; matches!(mail.receive(Some(1), actor, 2), Received::Got(0, 6)));
 }

@@ -7,7 +7,7 @@ use mono_time::Instant;
 const MANY: u64 = 200_000;
 
 /// How many sessions are open at once, each in the queue of one key.
-const SESSIONS: u64 = 20_000;
+const SESSIONS: u64 = 6_000;
 
 #[test]
 fn many_messages_wait_for_an_actor(rt: HostRuntime) {

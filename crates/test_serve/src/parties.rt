@@ -1,5 +1,5 @@
 // A task that makes the calls of a list, and a task that keeps the leases.
-ghost use Rattle.std.specs.Prelude.{⊤, false};
+ghost use Rattle.std.specs.Prelude.{⊤, ◌≡◌, false};
 ghost use Rattle.mono_sync.specs.Runs.{Leads};
 ghost use Rattle.mono_serve.specs.BucketCalls as buckets;
 ghost use Rattle.mono_serve.specs.LeaseCalls as leases;
@@ -416,7 +416,8 @@ fn note<C: SharedContext<Desk>>(cx: &mut C, name: u64, answer: Answer)
 
 // Appends a note, if there is memory for it.
 fn push_note(desk: &mut Desk, note: Note)
-    ensures { Leads leases.Step desk.old.leases desk.new.leases × Leads buckets.Step desk.old.buckets desk.new.buckets × Leads mail.Step desk.old.mail desk.new.mail }
+    ensures leads { Leads leases.Step desk.old.leases desk.new.leases × Leads buckets.Step desk.old.buckets desk.new.buckets × Leads mail.Step desk.old.mail desk.new.mail }
+    ensures parts { (desk.new.leases ≡ desk.old.leases) × (desk.new.buckets ≡ desk.old.buckets) × (desk.new.mail ≡ desk.old.mail) }
 {
     let _ = desk.notes.push(note);
 }

@@ -1,5 +1,7 @@
 // Tasks that wait for each other through a channel which they share, by futures that keep the number of their task.
-ghost use Rattle.std.specs.Prelude.{refl, ⊤};
+ghost use Rattle.std.specs.Prelude.{[], refl, ⊤};
+ghost use Rattle.mono_sync.specs.Mpsc.{owed_by, listed_by, waiting_in};
+ghost use Rattle.mono_sync.specs.Listed.{channel_some};
 
 use mono_rt::{
     Host, NoPool, Poll, Runtime, RuntimeBuilder, SharedContext, SharedState, StepDriver,
@@ -22,9 +24,22 @@ struct Shelf {
 impl SharedState for Shelf {
     ghost leads = { λ a b. ⊤ };
 
+    ghost lists = { λ a. listed_by a.channel };
+
+    ghost waiting = { λ a. waiting_in a.channel };
+
+    ghost owes = { λ a. owed_by a.channel };
+
+    #[inline(always)]
+    fn next_owed(&mut self) -> Option<u64> {
+        self.channel.next_owed()
+    }
+
     ghost leads_itself = { λ a. tt };
 
     ghost leads_on = { λ a b c p q. tt };
+
+    ghost lists_some = { λ a. channel_some a.channel };
 }
 
 impl Holds<Channel<u64>> for Shelf {
@@ -38,7 +53,15 @@ impl Holds<Channel<u64>> for Shelf {
 
     ghost part_with = { λ w x. refl };
 
+    ghost place = { [] };
+
     ghost leads_with = { λ w x led. tt };
+
+    ghost keeps_with = { λ me w x kept. kept };
+
+    ghost lists_part = { λ w p t is. is };
+
+    ghost owes_part = { λ w none. none };
 }
 
 /// A task that sends numbers, or a task that receives them.

@@ -10,7 +10,7 @@ use crate::parties::Deed::{
 };
 use crate::parties::{Deed, Party};
 use mono_actor::ActorError;
-use mono_rt::{Host, NoPool, Runtime, RuntimeBuilder, StepDriver, TimeDriver};
+use mono_rt::{Host, NoPool, Runtime, RuntimeBuilder, SharedState, StepDriver, TimeDriver};
 use mono_serve::{Asked, Buckets, Leases, Mailboxes, Received};
 use mono_session::SessionError;
 use mono_time::Instant;
@@ -201,25 +201,23 @@ fn takes_wait_in_their_order_until_the_bucket_has_the_tokens(rt: HostRuntime) {
     );
 }
 
-// A future waits for the task that polled it last, in the place that it had.
+// A future that another task polls waits anew at the line's end, and the task from before is owed a wake.
 #[test]
-fn tokens_wake_the_task_that_polled_last(rt: HostRuntime) {
+fn tokens_that_move_to_another_task_wait_anew(rt: HostRuntime) {
     let now = Instant::ZERO;
     let mut buckets = Buckets::new(rt.alloc(), 1).expect(&rt, "memory");
     buckets.add(rt.alloc(), 3, 10).expect(&rt, "bucket");
     assert!(rt; matches!(buckets.enter(None, 0, 1), Ok(0)));
     assert!(rt; matches!(buckets.enter(None, 0, 2), Ok(1)));
     assert!(rt; matches!(buckets.enter(None, 0, 3), Ok(2)));
-    assert!(rt; matches!(buckets.enter(Some(1), 0, 4), Ok(1)));
-    assert_eq!(rt; buckets.ask(rt.alloc(), now, 1, 0, 1), Asked::Waits);
-    assert_eq!(rt;
-        buckets.ask(rt.alloc(), now, 0, 0, 1),
-        Asked::Granted(Some(4))
-    );
-    assert_eq!(rt;
-        buckets.ask(rt.alloc(), now, 1, 0, 1),
-        Asked::Granted(Some(3))
-    );
+    assert!(rt; matches!(buckets.enter(Some(1), 0, 4), Ok(3)));
+    assert_eq!(rt; buckets.next_owed(), Some(2));
+    assert_eq!(rt; buckets.next_owed(), None);
+    assert_eq!(rt; buckets.ask(rt.alloc(), now, 3, 0, 1, 4), Asked::Waits);
+    assert_eq!(rt; buckets.ask(rt.alloc(), now, 0, 0, 1, 1), Asked::Granted);
+    assert_eq!(rt; buckets.next_owed(), Some(3));
+    assert_eq!(rt; buckets.ask(rt.alloc(), now, 2, 0, 1, 3), Asked::Granted);
+    assert_eq!(rt; buckets.next_owed(), Some(4));
 }
 
 // A future that is not in the line joins it at its end.
@@ -228,9 +226,11 @@ fn future_out_of_the_line_joins_it_again(rt: HostRuntime) {
     let mut buckets = Buckets::new(rt.alloc(), 1).expect(&rt, "memory");
     assert!(rt; matches!(buckets.enter(None, 0, 1), Ok(0)));
     assert!(rt; matches!(buckets.enter(None, 0, 2), Ok(1)));
-    assert_eq!(rt; buckets.give_up(0, 0), Some(2));
+    buckets.give_up(0, 1);
+    assert_eq!(rt; buckets.next_owed(), Some(2));
     assert!(rt; matches!(buckets.enter(Some(0), 0, 3), Ok(2)));
-    assert_eq!(rt; buckets.give_up(1, 0), Some(3));
+    buckets.give_up(1, 2);
+    assert_eq!(rt; buckets.next_owed(), Some(3));
 }
 
 #[test]
@@ -353,12 +353,12 @@ fn refused_receiver_waits_once_there_is_memory(rt: HostRuntime) {
         assert!(rt; matches!(mail.receive(None, 0, 1), Received::Waits(0)));
     }
     assert!(rt; matches!(mail.receive(Some(0), 0, 1), Received::Waits(0)));
-    assert_eq!(rt; mail.serve(), None);
+    assert_eq!(rt; mail.next_owed(), None);
     if mail.send(0, 0, 7).is_err() {
         assert!(rt; mail.send(0, 0, 7).is_ok());
     }
-    assert_eq!(rt; mail.serve(), Some(1));
-    assert_eq!(rt; mail.serve(), None);
+    assert_eq!(rt; mail.next_owed(), Some(1));
+    assert_eq!(rt; mail.next_owed(), None);
     assert!(rt; matches!(mail.receive(Some(0), 0, 1), Received::Got(0, 7)));
     assert!(rt;
         matches!(

@@ -22,9 +22,16 @@ pub struct Buckets {
 impl SharedState for Buckets {
     ghost leads = { λ a b. Called (limits_of a.limiter) (limits_of b.limiter) };
 
+    #[inline(always)]
+    fn next_owed(&mut self) -> Option<u64> {
+        None
+    }
+
     ghost leads_itself = { λ a. called_itself (limits_of a.limiter) };
 
     ghost leads_on = { λ a b c. called_on (limits_of a.limiter) (limits_of b.limiter) (limits_of c.limiter) };
+
+    ghost lists_some = { λ a p t is. is };
 }
 
 /// The answer to a take.

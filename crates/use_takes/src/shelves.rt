@@ -1,7 +1,7 @@
 // The shared value of the tasks.
-ghost use Rattle.std.specs.Prelude.{refl};
+ghost use Rattle.std.specs.Prelude.{[], refl};
 ghost use Rattle.mono_sync.specs.Runs.{Leads, leads_itself, leads_on};
-ghost use Rattle.mono_serve.specs.BucketCalls.{Step};
+ghost use Rattle.mono_serve.specs.BucketCalls.{listed_in, waiting_in, owed_by, some_waits, Step};
 
 use crate::takers::Answer;
 use mono_rt::SharedState;
@@ -28,13 +28,26 @@ pub struct Shelf {
     pub notes: Vec<Note>,
 }
 
-/// Calls of the buckets were made, and notes were taken.
+/// Calls of the buckets were made, and notes were taken. The tasks wait in the buckets alone.
 impl SharedState for Shelf {
     ghost leads = { λ a b. Leads Step a.buckets b.buckets };
+
+    ghost lists = { λ a. listed_in a.buckets };
+
+    ghost waiting = { λ a. waiting_in a.buckets };
+
+    ghost owes = { λ a. owed_by a.buckets };
+
+    #[inline(always)]
+    fn next_owed(&mut self) -> Option<u64> {
+        self.buckets.next_owed()
+    }
 
     ghost leads_itself = { λ a. leads_itself Step a.buckets };
 
     ghost leads_on = { λ a b c. leads_on Step a.buckets b.buckets c.buckets };
+
+    ghost lists_some = { λ a. some_waits a.buckets };
 }
 
 impl Holds<Buckets> for Shelf {
@@ -48,5 +61,13 @@ impl Holds<Buckets> for Shelf {
 
     ghost part_with = { λ w x. refl };
 
+    ghost place = { [] };
+
     ghost leads_with = { λ w x led. led };
+
+    ghost keeps_with = { λ me w x kept. kept };
+
+    ghost lists_part = { λ w p t is. is };
+
+    ghost owes_part = { λ w none. none };
 }

@@ -1,4 +1,5 @@
 // A task that takes tokens, and one that sleeps.
+ghost use Rattle.std.specs.Prelude.{◌≡◌};
 ghost use Rattle.mono_sync.specs.Runs.{Leads};
 ghost use Rattle.mono_serve.specs.BucketCalls.{Step};
 ghost use Rattle.use_takes.specs.Parties.{is_over};
@@ -87,7 +88,8 @@ fn note<C: SharedContext<Shelf>>(cx: &mut C, name: u64, answer: Answer)
 
 // Appends a note, if there is memory for it.
 fn push_note(shelf: &mut Shelf, note: Note)
-    ensures { Leads Step shelf.old.buckets shelf.new.buckets }
+    ensures leads { Leads Step shelf.old.buckets shelf.new.buckets }
+    ensures buckets { shelf.new.buckets ≡ shelf.old.buckets }
 {
     let _ = shelf.notes.push(note);
 }

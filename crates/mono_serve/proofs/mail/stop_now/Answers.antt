@@ -1,8 +1,12 @@
 use Rattle.std.proofs.Common.{sym, subst}
-use Rattle.mono_serve.specs.MailCalls.{Stops}
+use Rattle.mono_serve.specs.MailCalls.{Stops, Then}
 use Rattle.mono_serve.proofs.mail.stop_now.Goals as goal
 
 pub returns-clause-answer : goal.returns-clause-answer
 returns-clause-answer g c =
-    subst (λ w. Stops (g.W.Holds.part (g.C.SharedContext.shared c.args.cx.now)) c.args.actor c.stop_part.result (g.W.Holds.part w)) (sym (g.met.C.SharedContext.shared_with c.args.cx.now c.stop_part.new.whole))
+    subst (λ w. Then (Stops (g.W.Holds.part (g.C.SharedContext.shared c.args.cx.now)) c.args.actor c.stop_part.result) c.args.actor (g.W.Holds.part w)) (sym (g.met.C.SharedContext.shared_with c.args.cx.now c.stop_part.new.whole))
     (rw c.shared_mut.ensures.value at c.stop_part.ensures.answer)
+
+pub returns-clause-reached : goal.returns-clause-reached
+returns-clause-reached g c =
+    g.met.C.SharedContext.reaches_with _ _ (rw c.shared_mut.ensures.value at c.stop_part.ensures.leads) (rw c.shared_mut.ensures.value at (c.stop_part.ensures.keeps (g.C.Context.number c.args.cx.now)))

@@ -1,4 +1,5 @@
 use Rattle.std.proofs.Common.{sym, subst}
+use Rattle.mono_task.specs.Owed.{Keeps}
 use Rattle.mono_serve.specs.MailCalls.{Receives}
 use Rattle.mono_serve.proofs.receives.ask.Goals as goal
 
@@ -7,3 +8,7 @@ returns-clause-answer g c =
     subst (λ w. Receives (g.W.Holds.part (g.C.SharedContext.shared c.args.cx.now)) c.args.ticket c.args.actor (g.C.Context.number c.args.cx.now) c.receive_part.result (g.W.Holds.part w)) (sym (g.met.C.SharedContext.shared_with c.args.cx.now c.receive_part.new.whole))
     (subst (λ n. Receives (g.W.Holds.part (g.C.SharedContext.shared c.args.cx.now)) c.args.ticket c.args.actor n c.receive_part.result (g.W.Holds.part c.receive_part.new.whole)) c.me-me.ensures
     (rw c.shared_mut.ensures.value at c.receive_part.ensures.answer))
+
+pub returns-clause-reached : goal.returns-clause-reached
+returns-clause-reached g c =
+    g.met.C.SharedContext.reaches_with _ _ (rw c.shared_mut.ensures.value at c.receive_part.ensures.leads) (subst (λ n. Keeps g.W.SharedState.lists n (g.C.SharedContext.shared c.args.cx.now) c.receive_part.new.whole) c.me-me.ensures (rw c.shared_mut.ensures.value at c.receive_part.ensures.keeps))

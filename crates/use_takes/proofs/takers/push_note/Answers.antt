@@ -2,5 +2,5 @@ use Rattle.mono_sync.specs.Runs.{leads_itself}
 use Rattle.mono_serve.specs.BucketCalls.{Step}
 use Rattle.use_takes.proofs.takers.push_note.Goals as goal
 
-pub returns : goal.returns
-returns c = leads_itself Step c.args.shelf.now.buckets
+pub returns-clause-leads : goal.returns-clause-leads
+returns-clause-leads c = leads_itself Step c.args.shelf.now.buckets

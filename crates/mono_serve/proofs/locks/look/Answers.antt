@@ -1,0 +1,15 @@
+use Rattle.std.proofs.Common.{sym, subst}
+use Rattle.mono_task.specs.Owed.{Keeps}
+use Rattle.mono_serve.specs.LeaseCalls.{Looks, Then}
+use Rattle.mono_serve.proofs.locks.look.Goals as goal
+
+pub returns-clause-answer : goal.returns-clause-answer
+returns-clause-answer g c =
+    subst (λ w. Then (Looks (g.W.Holds.part (g.C.SharedContext.shared c.args.cx.now)) (g.C.Context.nanos c.args.cx.now) c.args.ticket c.args.session c.args.key (g.C.Context.number c.args.cx.now) c.look_part.result) (g.W.Holds.part w)) (sym (g.met.C.SharedContext.shared_with c.args.cx.now c.look_part.new.whole))
+    (subst (λ i. Then (Looks (g.W.Holds.part (g.C.SharedContext.shared c.args.cx.now)) i c.args.ticket c.args.session c.args.key (g.C.Context.number c.args.cx.now) c.look_part.result) (g.W.Holds.part c.look_part.new.whole)) c.now-now.ensures
+    (subst (λ n. Then (Looks (g.W.Holds.part (g.C.SharedContext.shared c.args.cx.now)) c.now-now.result.nanos c.args.ticket c.args.session c.args.key n c.look_part.result) (g.W.Holds.part c.look_part.new.whole)) c.me-me.ensures
+    (rw c.shared_mut.ensures.value at c.look_part.ensures.answer)))
+
+pub returns-clause-reached : goal.returns-clause-reached
+returns-clause-reached g c =
+    g.met.C.SharedContext.reaches_with _ _ (rw c.shared_mut.ensures.value at c.look_part.ensures.leads) (subst (λ n. Keeps g.W.SharedState.lists n (g.C.SharedContext.shared c.args.cx.now) c.look_part.new.whole) c.me-me.ensures (rw c.shared_mut.ensures.value at c.look_part.ensures.keeps))
