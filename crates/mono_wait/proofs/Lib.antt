@@ -3,3 +3,4 @@ pub mod TurnLemmas
 pub mod ParkLemmas
 mod CallLemmas
 pub mod WatcherLemmas
+mod PlaceLemmas

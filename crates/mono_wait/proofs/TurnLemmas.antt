@@ -1,5 +1,5 @@
 -- A told turn that ended pending leaves its task waiting at all that its future needs.
-use Rattle.std.proofs.Common.{◌≡◌, ◌≢◌, ◌<◌, ◌≤◌, ◌⊎◌, inl, inr, ℕ, true, false, Bool, set, length, List, [], ◌∷◌, ◌++◌, Some, None, Option, refl, ap, sym, subst, ◌∙◌, arith}
+use Rattle.std.proofs.Common.{◌≡◌, ◌≢◌, ◌<◌, ◌≤◌, ◌⊎◌, inl, inr, ℕ, true, false, Bool, set, length, List, [], ◌∷◌, ◌++◌, Some, None, Option, refl, ap, sym, subst, ◌∙◌, append_assoc, arith}
 use Rattle.std.specs.Prelude.{⊤}
 use Rattle.std.proofs.lemmas.Bool.{cases_lt}
 use Rattle.std.proofs.lemmas.List.{get_or-set_same, get_or_past, length-set}
@@ -8,7 +8,7 @@ use Rattle.mono_model.specs.Tasks.{Tasks}
 use Rattle.mono_model.specs.declared.Ended.{Ended}
 use Rattle.mono_model.specs.declared.poll.Poll.{Poll}
 use Rattle.mono_model.specs.declared.poll.Poll.TheVariants.{Ready, Pending}
-use Rattle.mono_task.specs.Members.{FutureOf}
+use Rattle.mono_task.specs.Members.{FutureOf, SharedOf}
 use Rattle.mono_task.specs.Work.{without_outputs}
 use Rattle.mono_machine.specs.Machine.{Machine, IsValid}
 use Rattle.mono_machine.specs.Turns.{after_steps, replies_of, after_begin, end_answer, turn_report_for}
@@ -28,7 +28,9 @@ use Rattle.mono_rt.specs.Record.{no_acts}
 use Rattle.mono_rt.specs.Refinement.{hosting_of, Matches}
 use Rattle.mono_rt.proofs.PartTurnLemmas.{begun_matches}
 use Rattle.mono_rt.specs.Reaches.{ReachesSharing}
-use Rattle.mono_rt.specs.Turns.{Turn, Runs, UnlessSpent, Polls, AfterPoll}
+use Rattle.mono_rt.specs.Payments.{PaysOwed}
+use Rattle.mono_rt.specs.Turns.{Turn, Runs, UnlessSpent, Polls, Pauses, AfterPoll}
+use Rattle.mono_rt.specs.Stores.{Store}
 use Rattle.mono_rt.specs.FuturePolls.{TellsTurn}
 use Rattle.mono_rt.specs.declared.contexts.Cx.{Cx}
 use Rattle.mono_machine.specs.Watches.{Source, IsWatched, Hears, drops_in}
@@ -56,11 +58,11 @@ inside_of table t v at = elim (cases_lt t (length table)) [
   | inr past ↦ absurd (no_some v (sym (get_or_past table t None past) ∙ at))
 ]
 
-module _ {F O P U W J A V : Type 0} (number : O → ℕ) (leads : W → W → Type 0) (lists : W → ℕ → Bool) (future : FutureOf F (Cx F O P U W J A V) O) (needs : F → Source → Type 0)
+module _ {F O P U W J A V : Type 0} (number : O → ℕ) (sharing : SharedOf W) (future : FutureOf F (Cx F O P U W J A V) O) (needs : F → Source → Type 0)
     (covers : (f : F) (c : Cx F O P U W J A V) (g : F) (d : Cx F O P U W J A V) → future.polls f c Pending g d
-    → Covers (λ c. c.parts.me) (λ c. without_outputs c.parts.tasks.tasks) (ReachesSharing number leads) (cx_watcher lists) c d (needs g)) where
+    → Covers (λ c. c.parts.me) (λ c. without_outputs c.parts.tasks.tasks) (ReachesSharing number sharing) (cx_watcher sharing.names) c d (needs g)) where
   abbrev HeardIn : Cx F O P U W J A V → Cx F O P U W J A V → Source → Type 0
-  HeardIn = Heard (λ c. c.parts.me) (λ c. without_outputs c.parts.tasks.tasks) (ReachesSharing number leads) (cx_watcher lists)
+  HeardIn = Heard (λ c. c.parts.me) (λ c. without_outputs c.parts.tasks.tasks) (ReachesSharing number sharing) (cx_watcher sharing.names)
 
   never_ready : (output : O) → end.Pending ≡ end.Ready (number output) → ⊥
   never_ready output e = cc
@@ -69,46 +71,50 @@ module _ {F O P U W J A V : Type 0} (number : O → ℕ) (leads : W → W → Ty
     left : F
     middle : Cx F O P U W J A V
     polled : future.polls f begun Pending left middle
-    reached : ReachesSharing number leads begun middle
-    rest : AfterPoll number leads future Pending t left ended middle after
+    reached : ReachesSharing number sharing begun middle
+    paid : Cx F O P U W J A V
+    pays : PaysOwed number sharing middle paid
+    pauses : Pauses t (Some left) ended paid after
 
-  by_answer : (t : ℕ) (f : F) (ended : Ended) (begun after : Cx F O P U W J A V) (answer : Poll O) (left : F) (middle : Cx F O P U W J A V) → future.polls f begun answer left middle → ReachesSharing number leads begun middle
-      → AfterPoll number leads future answer t left ended middle after → end.Pending ≡ end_of number answer → IsPaused t f ended begun after
+  by_answer : (t : ℕ) (f : F) (ended : Ended) (begun after : Cx F O P U W J A V) (answer : Poll O) (left : F) (middle : Cx F O P U W J A V) → future.polls f begun answer left middle → ReachesSharing number sharing begun middle
+      → AfterPoll number sharing future answer t left ended middle after → end.Pending ≡ end_of number answer → IsPaused t f ended begun after
   by_answer t f ended begun after (Ready output) left middle polled reached rest is = absurd (never_ready output is)
-  by_answer t f ended begun after Pending left middle polled reached rest is = record { left = left; middle = middle; polled = polled; reached = reached; rest = rest }
+  by_answer t f ended begun after Pending left middle polled reached (paid, (pays, pauses)) is = record { left = left; middle = middle; polled = polled; reached = reached; paid = paid; pays = pays; pauses = pauses }
 
-  by_spent : (s : Bool) → s ≡ false → (t : ℕ) (f : F) (ended : Ended) (begun after : Cx F O P U W J A V) → UnlessSpent number leads future s t f end.Pending ended begun after → IsPaused t f ended begun after
+  by_spent : (s : Bool) → s ≡ false → (t : ℕ) (f : F) (ended : Ended) (begun after : Cx F O P U W J A V) → UnlessSpent number sharing future s t f end.Pending ended begun after → IsPaused t f ended begun after
   by_spent true unspent t f ended begun after runs = absurd (impossible unspent)
     where
       impossible : true ≡ false → ⊥
       impossible e = cc
   by_spent false unspent t f ended begun after p = by_answer t f ended begun after p.answer p.left p.middle p.polled p.reached p.rest p.is_end
 
-  by_future : (v : Option F) (f : F) → v ≡ Some f → future.is_spent f ≡ false → (t : ℕ) (ended : Ended) (begun after : Cx F O P U W J A V) → Runs number leads future v t end.Pending ended begun after → IsPaused t f ended begun after
-  by_future v f is unspent t ended begun after runs = by_spent (future.is_spent f) unspent t f ended begun after (subst (λ w. Runs number leads future w t end.Pending ended begun after) is runs)
+  by_future : (v : Option F) (f : F) → v ≡ Some f → future.is_spent f ≡ false → (t : ℕ) (ended : Ended) (begun after : Cx F O P U W J A V) → Runs number sharing future v t end.Pending ended begun after → IsPaused t f ended begun after
+  by_future v f is unspent t ended begun after runs = by_spent (future.is_spent f) unspent t f ended begun after (subst (λ w. Runs number sharing future w t end.Pending ended begun after) is runs)
 
-  module _ (law : TurnRegisters) (has_timers : Bool) (m : Machine) (futures : List (Option F)) (reading : ℕ) (steps : List TurnStep) (answer : Report) (lefts : List (Option F))
-      (t : TellsTurn number leads future has_timers m futures reading steps end.Pending answer lefts) where
+  module _ (law : TurnRegisters) (has_timers : Bool) (m : Machine) (store : Store F W) (reading : ℕ) (steps : List TurnStep) (answer : Report) (lefts : Store F W)
+      (t : TellsTurn number sharing future has_timers m store reading steps end.Pending answer lefts) where
     module _ (f : F) (p : IsPaused t.task f t.ended t.turn.begun t.after) where
       module _ (x : Source) (it : HeardIn t.turn.begun p.middle x) where
         abbrev b : List TurnStep
         b = it.before.parts.steps
 
+        -- the acts of the poll since then, and the wakes of those whom the shared value owed one
         abbrev s : List TurnStep
-        s = it.since.parts.steps
+        s = it.since.parts.steps ++ p.pays.paying.parts.steps
 
         acts : steps ≡ b ++ s
         acts =
-            sym t.acts ∙ ap (λ a. a.steps) p.rest.parts.acts ∙ it.since.parts.grew
-            ∙ ap (λ xs. xs ++ s) (it.before.parts.grew ∙ ap (λ a. a.steps ++ b) t.turn.begins.parts.acts_are)
+            sym t.acts ∙ ap (λ a. a.steps) p.pauses.parts.acts ∙ p.pays.paying.parts.grew
+            ∙ ap (λ xs. xs ++ p.pays.paying.parts.steps) (it.since.parts.grew ∙ ap (λ xs. xs ++ it.since.parts.steps) (it.before.parts.grew ∙ ap (λ a. a.steps ++ b) t.turn.begins.parts.acts_are))
+            ∙ append_assoc b it.since.parts.steps p.pays.paying.parts.steps
 
         me : t.turn.begun.parts.me ≡ t.task
         me = t.turn.begins.parts.me
 
         hears : (rest : List ℕ) → m.tasks.queue ≡ t.task ∷ rest → Hears (after_steps t.task b (begun_machine m.tasks.queue m)) t.task x
         hears rest queue =
-            hears_in (λ c. c.parts.me) (λ c. without_outputs c.parts.tasks.tasks) (ReachesSharing number leads) (cx_watcher lists) (λ c n. Matches number hosting_of c.parts n)
-            (λ c d r. r.parts.same_me) (λ c d r. (r.parts.steps, r.parts.leads)) (λ c n y u st is. parts_same_watcher number hosting_of c.parts n c.has_handed_out (lists c.shared) y u st is) (λ c n st. parts_same_stirred number hosting_of c.parts n c.parts.me st)
+            hears_in (λ c. c.parts.me) (λ c. without_outputs c.parts.tasks.tasks) (ReachesSharing number sharing) (cx_watcher sharing.names) (λ c n. Matches number hosting_of c.parts n)
+            (λ c d r. r.parts.same_me) (λ c d r. (r.parts.steps, r.parts.leads)) (λ c n y u st is. parts_same_watcher number hosting_of c.parts n c.has_handed_out (sharing.names c.shared) y u st is) (λ c n st. parts_same_stirred number hosting_of c.parts n c.parts.me st)
             t.task it.moment (after_steps t.task b (begun_machine m.tasks.queue m)) x (it.before.parts.same_me ∙ me)
             (subst (λ q. Matches number hosting_of it.moment.parts (after_steps t.task b (begun_machine q m))) (sym queue)
             (subst (λ n. Matches number hosting_of it.moment.parts (after_steps n b (after_begin t.task rest m))) me
@@ -125,13 +131,14 @@ module _ {F O P U W J A V : Type 0} (number : O → ℕ) (leads : W → W → Ty
         leaves_at : LeavesAt m t.task steps answer x
         leaves_at = record { before = b; since = s; acts = acts; stays = stays }
 
-      goes_back : value_at futures t.task ≡ Some f → value_at lefts t.task ≡ Some p.left
+      goes_back : value_at store.futures t.task ≡ Some f → value_at lefts.futures t.task ≡ Some p.left
       goes_back at =
           let had : t.task < length t.before.futures.items = inside_of t.before.futures.items t.task f (ap (λ fs. value_at fs t.task) t.had ∙ at) in
           let same : length t.turn.begun.futures.items ≡ length t.before.futures.items = ap length t.turn.begins.futures ∙ length-set t.before.futures.items t.task None in
-          ap (λ fs. value_at fs t.task) (sym t.has ∙ p.rest.futures) ∙ get_or-set_same p.middle.futures.items t.task (Some p.left) None (omega (arith, had, same, p.reached.grows))
+          let paid : length p.paid.futures.items ≡ length p.middle.futures.items = ap (λ f. length f.items) p.pays.paying.same_futures in
+          ap (λ fs. value_at fs t.task) (sym t.has ∙ p.pauses.futures) ∙ get_or-set_same p.paid.futures.items t.task (Some p.left) None (omega (arith, had, same, paid, p.reached.grows))
 
-    pub leaves_waiting : LeavesWaiting (λ f. future.is_spent f ≡ false) needs m futures lefts steps answer
+    pub leaves_waiting : LeavesWaiting (λ f. future.is_spent f ≡ false) needs m store.futures lefts.futures steps answer
     leaves_waiting = record {
       task = t.task;
       replies = t.after.parts.acts.replies;

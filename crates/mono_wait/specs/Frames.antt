@@ -3,7 +3,7 @@ use Rattle.std.specs.Prelude.{◌≡◌, ◌⊎◌, ℕ, ⊤, Option}
 use Rattle.std.proofs.Common.{inl, inr, sym, subst}
 use Rattle.mono_model.specs.Tasks.{Tasks}
 use Rattle.mono_model.specs.declared.poll.Poll.{Poll}
-use Rattle.mono_model.specs.declared.poll.Poll.TheVariants.{Ready, Pending}
+use Rattle.mono_model.specs.declared.poll.Poll.TheVariants.{Pending}
 use Rattle.mono_task.specs.Members.{FutureOf}
 use Rattle.mono_machine.specs.Watches.{Source}
 use Rattle.mono_wait.specs.Sources.{Covers, Heard, heard_on}

@@ -19,11 +19,11 @@ use Rattle.mono_wait.specs.Joins.{MaybeNeeds, MaybeCovers, maybe_left, advance_r
 use Rattle.mono_wait.specs.Frames.{Frame, Part, Needs, HeardIn, CoversIn, same_reached, heard_before, heard_after, covers_before, covers_after, covers_both}
 
 -- those of each unfinished branch
-abbrev pub ListNeeds : {C T O : Type 0} → Needs T → List (MaybeDone C T O) → Source → Type 0
+abbrev pub ListNeeds : {T O : Type 0} → Needs T → List (MaybeDone T O) → Source → Type 0
 ListNeeds needs [] x = ⊥
 ListNeeds needs (m ∷ ms) x = MaybeNeeds needs m x ⊎ ListNeeds needs ms x
 
-abbrev pub TryJoinNeeds : {C A B X Y : Type 0} → Needs A → Needs B → TryJoin2 C A B X Y → Source → Type 0
+abbrev pub TryJoinNeeds : {A B X Y E : Type 0} → Needs A → Needs B → TryJoin2 A B X Y E → Source → Type 0
 TryJoinNeeds a b f x = MaybeNeeds a f.a x ⊎ MaybeNeeds b f.b x
 
 no_answer : {Z : Type 0} (z : Z) → Pending ≡ Ready z → ⊥
@@ -37,36 +37,36 @@ no_true : false ≡ true → ⊥
 no_true e = cc
 
 module _ {C T O : Type 0} (w : Frame C) (future : FutureOf T C O) (part : Part w future) where
-  one_reached : (m : MaybeDone C T O) (c : C) (n : MaybeDone C T O) (d : C) → Advances future m c n d → w.reaches c d
+  one_reached : (m : MaybeDone T O) (c : C) (n : MaybeDone T O) (d : C) → Advances future m c n d → w.reaches c d
   one_reached = advance_reached future w.reaches w.itself w.on part.reach part.left
 
-  each_left : (ms : List (MaybeDone C T O)) (c : C) (ns : List (MaybeDone C T O)) (d : C) → EachInTurn (GivesUp future) ms c ns d → w.reaches c d
+  each_left : (ms : List (MaybeDone T O)) (c : C) (ns : List (MaybeDone T O)) (d : C) → EachInTurn (GivesUp future) ms c ns d → w.reaches c d
   each_left [] c [] d q = same_reached w c d q
   each_left [] c (n ∷ ns) d q = absurd q
   each_left (m ∷ ms) c [] d q = absurd q
   each_left (m ∷ ms) c (n ∷ ns) d (middle, up, rest) = w.on c middle d (maybe_left future w.reaches w.itself part.left m c middle up.1) (each_left ms middle ns d rest)
 
-  pub list_left : (ms : List (MaybeDone C T O)) (c d : C) → AllCancel future ms c d → w.reaches c d
+  pub list_left : (ms : List (MaybeDone T O)) (c d : C) → AllCancel future ms c d → w.reaches c d
   list_left ms c d q = each_left ms c q.0 d q.1
 
-  pub each_reached : (ms : List (MaybeDone C T O)) (c : C) (ns : List (MaybeDone C T O)) (d : C) → EachInTurn (Advances future) ms c ns d → w.reaches c d
+  pub each_reached : (ms : List (MaybeDone T O)) (c : C) (ns : List (MaybeDone T O)) (d : C) → EachInTurn (Advances future) ms c ns d → w.reaches c d
   each_reached [] c [] d q = same_reached w c d q
   each_reached [] c (n ∷ ns) d q = absurd q
   each_reached (m ∷ ms) c [] d q = absurd q
   each_reached (m ∷ ms) c (n ∷ ns) d (middle, turn, rest) = w.on c middle d (one_reached m c n middle turn) (each_reached ms middle ns d rest)
 
-  abbrev OneCovers : C → MaybeDone C T O → C → Type 0
+  abbrev OneCovers : C → MaybeDone T O → C → Type 0
   OneCovers = MaybeCovers future w.number w.work w.reaches w.watcher part.needs
 
-  one_covers : (m : MaybeDone C T O) (c : C) (n : MaybeDone C T O) (d : C) → Advances future m c n d → OneCovers c n d
+  one_covers : (m : MaybeDone T O) (c : C) (n : MaybeDone T O) (d : C) → Advances future m c n d → OneCovers c n d
   one_covers = advance_covers future w.number w.work w.reaches w.watcher part.needs part.covers
 
-  one_hears : (c : C) (n : MaybeDone C T O) (d : C) → OneCovers c n d → (x : Source) → MaybeNeeds part.needs n x → HeardIn w c d x
+  one_hears : (c : C) (n : MaybeDone T O) (d : C) → OneCovers c n d → (x : Source) → MaybeNeeds part.needs n x → HeardIn w c d x
   one_hears c (Future f) d covered x is = covered.each x is
   one_hears c (Done y) d covered x is = absurd is
   one_hears c Gone d covered x is = absurd is
 
-  each_hears : (ms : List (MaybeDone C T O)) (c : C) (ns : List (MaybeDone C T O)) (d : C) → EachInTurn (Advances future) ms c ns d → (x : Source) → ListNeeds part.needs ns x → HeardIn w c d x
+  each_hears : (ms : List (MaybeDone T O)) (c : C) (ns : List (MaybeDone T O)) (d : C) → EachInTurn (Advances future) ms c ns d → (x : Source) → ListNeeds part.needs ns x → HeardIn w c d x
   each_hears [] c [] d q x is = absurd is
   each_hears [] c (n ∷ ns) d q x is = absurd q
   each_hears (m ∷ ms) c [] d q x is = absurd q
@@ -79,13 +79,13 @@ module _ {C T O : Type 0} (w : Frame C) (future : FutureOf T C O) (part : Part w
   Armed c d = (x : Source) × HeardIn w c d x
 
   -- the first branch is registered, or one after it
-  arms_first : (c m d : C) (n : MaybeDone C T O) (ns : List (MaybeDone C T O)) → w.reaches c m → w.reaches m d → (list_any is_none (map output_of ns) ≡ true → Armed m d) → OneCovers c n m
+  arms_first : (c m d : C) (n : MaybeDone T O) (ns : List (MaybeDone T O)) → w.reaches c m → w.reaches m d → (list_any is_none (map output_of ns) ≡ true → Armed m d) → OneCovers c n m
       → list_any is_none (map output_of (n ∷ ns)) ≡ true → Armed c d
   arms_first c m d (Future f) ns to more later covered is = (covered.some, heard_before w c m d covered.some covered.armed more)
   arms_first c m d (Done y) ns to more later covered is = let it : Armed m d = later is in (it.0, heard_after w c m d it.0 to it.1)
   arms_first c m d Gone ns to more later covered is = absurd covered
 
-  each_arms : (ms : List (MaybeDone C T O)) (c : C) (ns : List (MaybeDone C T O)) (d : C) → EachInTurn (Advances future) ms c ns d → list_any is_none (map output_of ns) ≡ true → Armed c d
+  each_arms : (ms : List (MaybeDone T O)) (c : C) (ns : List (MaybeDone T O)) (d : C) → EachInTurn (Advances future) ms c ns d → list_any is_none (map output_of ns) ≡ true → Armed c d
   each_arms [] c [] d q some = absurd (no_true some)
   each_arms [] c (n ∷ ns) d q some = absurd q
   each_arms (m ∷ ms) c [] d q some = absurd q
@@ -93,21 +93,21 @@ module _ {C T O : Type 0} (w : Frame C) (future : FutureOf T C O) (part : Part w
       arms_first c middle d n ns (one_reached m c n middle turn) (each_reached ms middle ns d rest) (λ is. each_arms ms middle ns d rest is) (one_covers m c n middle turn) some
 
   -- if one branch is unfinished, all that the unfinished ones need is heard
-  pub each_covers : (ms : List (MaybeDone C T O)) (c : C) (ns : List (MaybeDone C T O)) (d : C) → EachInTurn (Advances future) ms c ns d → list_any is_none (map output_of ns) ≡ true → CoversIn w c d (ListNeeds part.needs ns)
+  pub each_covers : (ms : List (MaybeDone T O)) (c : C) (ns : List (MaybeDone T O)) (d : C) → EachInTurn (Advances future) ms c ns d → list_any is_none (map output_of ns) ≡ true → CoversIn w c d (ListNeeds part.needs ns)
   each_covers ms c ns d turns some = let it : Armed c d = each_arms ms c ns d turns some in record { some = it.0; armed = it.1; each = each_hears ms c ns d turns }
 
-  pub join_list_reached : (ms : List (MaybeDone C T O)) (c : C) (r : Poll (List O)) (ns : List (MaybeDone C T O)) (b : Bool) (d : C) → JoinListPolls future ms c r ns b d → w.reaches c d
+  pub join_list_reached : (ms : List (MaybeDone T O)) (c : C) (r : Poll (List O)) (ns : List (MaybeDone T O)) (b : Bool) (d : C) → JoinListPolls future ms c r ns b d → w.reaches c d
   join_list_reached ms c r ns b d q = each_reached ms c q.polled d q.turns
 
-  pub join_lists_cover : (ms : List (MaybeDone C T O)) (c : C) (ns : List (MaybeDone C T O)) (b : Bool) (d : C) → JoinListPolls future ms c Pending ns b d → CoversIn w c d (ListNeeds part.needs ns)
+  pub join_lists_cover : (ms : List (MaybeDone T O)) (c : C) (ns : List (MaybeDone T O)) (b : Bool) (d : C) → JoinListPolls future ms c Pending ns b d → CoversIn w c d (ListNeeds part.needs ns)
   join_lists_cover ms c ns b d q =
       subst (λ v. CoversIn w c d (ListNeeds part.needs v)) (sym q.waits.0) (each_covers ms c q.polled d q.turns (none_is (list_any is_none (map output_of q.polled)) (filter_map (λ output. output) (map output_of q.polled)) q.answer))
 
 module _ {C T X E : Type 0} (w : Frame C) (future : FutureOf T C (Result X E)) (part : Part w future) where
   abbrev Branches : Type 0
-  Branches = List (MaybeDone C T (Result X E))
+  Branches = List (MaybeDone T (Result X E))
 
-  unless_reached : (one_failed : Bool) (m : MaybeDone C T (Result X E)) (c : C) (n : MaybeDone C T (Result X E)) (d : C) → AdvancesUnless future one_failed m c n d → w.reaches c d
+  unless_reached : (one_failed : Bool) (m : MaybeDone T (Result X E)) (c : C) (n : MaybeDone T (Result X E)) (d : C) → AdvancesUnless future one_failed m c n d → w.reaches c d
   unless_reached true m c n d q = same_reached w c d q.1
   unless_reached false m c n d q = advance_reached future w.reaches w.itself w.on part.reach part.left m c n d q
 
@@ -155,13 +155,13 @@ module _ {C T X E : Type 0} (w : Frame C) (future : FutureOf T C (Result X E)) (
       (each_covers w future part ms c q.polled q.after (none_failed ms (record { one_failed = false; cx = c }) q.polled (record { one_failed = q.one_failed; cx = q.after }) q.turns refl it.0) it.1))
 
 module _ {C A B X Y E : Type 0} (w : Frame C) (a : FutureOf A C (Result X E)) (b : FutureOf B C (Result Y E)) (p : Part w a) (q : Part w b) where
-  both_left : (first : MaybeDone C A (Result X E)) (second : MaybeDone C B (Result Y E)) (c d : C) → BothCancel a b first second c d → w.reaches c d
+  both_left : (first : MaybeDone A (Result X E)) (second : MaybeDone B (Result Y E)) (c d : C) → BothCancel a b first second c d → w.reaches c d
   both_left first second c d (middle, one, two) = w.on c middle d (maybe_left a w.reaches w.itself p.left first c middle one) (maybe_left b w.reaches w.itself q.left second middle d two)
 
-  pub try_join_left : (f : TryJoin2 C A B (Result X E) (Result Y E)) (c d : C) → TryJoinCancels a b f c d → w.reaches c d
+  pub try_join_left : (f : TryJoin2 A B X Y E) (c d : C) → TryJoinCancels a b f c d → w.reaches c d
   try_join_left f c d it = both_left f.a f.b c d it
 
-  pub try_join_reached : (f : TryJoin2 C A B (Result X E) (Result Y E)) (c : C) (r : Poll (Result (X × Y) E)) (g : TryJoin2 C A B (Result X E) (Result Y E)) (d : C) → TryJoinPolls a b f c r g d → w.reaches c d
+  pub try_join_reached : (f : TryJoin2 A B X Y E) (c : C) (r : Poll (Result (X × Y) E)) (g : TryJoin2 A B X Y E) (d : C) → TryJoinPolls a b f c r g d → w.reaches c d
   try_join_reached f c r g d it =
       w.on c it.between d (advance_reached a w.reaches w.itself w.on p.reach p.left f.a c it.first it.between it.a_polled)
       (w.on it.between it.after d (unless_reached w b q (is_some (failure_of it.first)) f.b it.between it.second it.after it.b_polled) (by_answer r it.waits it.ends))
@@ -170,13 +170,13 @@ module _ {C A B X Y E : Type 0} (w : Frame C) (a : FutureOf A C (Result X E)) (b
       by_answer (Ready z) waits ends = both_left it.first it.second it.after d ends.1
       by_answer Pending waits ends = same_reached w it.after d waits.1
 
-  abbrev Covered : C → C → MaybeDone C A (Result X E) → MaybeDone C B (Result Y E) → Type 0
+  abbrev Covered : C → C → MaybeDone A (Result X E) → MaybeDone B (Result Y E) → Type 0
   Covered c d first second = CoversIn w c d (λ x. MaybeNeeds p.needs first x ⊎ MaybeNeeds q.needs second x)
 
-  a_covers : (f : MaybeDone C A (Result X E)) (c : C) (first : MaybeDone C A (Result X E)) (m : C) → Advances a f c first m → MaybeCovers a w.number w.work w.reaches w.watcher p.needs c first m
+  a_covers : (f : MaybeDone A (Result X E)) (c : C) (first : MaybeDone A (Result X E)) (m : C) → Advances a f c first m → MaybeCovers a w.number w.work w.reaches w.watcher p.needs c first m
   a_covers = advance_covers a w.number w.work w.reaches w.watcher p.needs p.covers
 
-  b_covers : (f : MaybeDone C B (Result Y E)) (c : C) (second : MaybeDone C B (Result Y E)) (m : C) → Advances b f c second m → MaybeCovers b w.number w.work w.reaches w.watcher q.needs c second m
+  b_covers : (f : MaybeDone B (Result Y E)) (c : C) (second : MaybeDone B (Result Y E)) (m : C) → Advances b f c second m → MaybeCovers b w.number w.work w.reaches w.watcher q.needs c second m
   b_covers = advance_covers b w.number w.work w.reaches w.watcher q.needs q.covers
 
   abbrev ok_first : X → Option (Result X E)
@@ -187,7 +187,7 @@ module _ {C A B X Y E : Type 0} (w : Frame C) (a : FutureOf A C (Result X E)) (b
   both_end x (Err y) e = no_answer (Err y) e
 
   -- the second was polled, since the first has not failed
-  two_cover : (c m d : C) (first : MaybeDone C A (Result X E)) (before second : MaybeDone C B (Result Y E)) → w.reaches c m → MaybeCovers a w.number w.work w.reaches w.watcher p.needs c first m
+  two_cover : (c m d : C) (first : MaybeDone A (Result X E)) (before second : MaybeDone B (Result Y E)) → w.reaches c m → MaybeCovers a w.number w.work w.reaches w.watcher p.needs c first m
       → AdvancesUnless b (is_some (failure_of first)) before m second d → Pending ≡ try_join_rule (both_results (output_of first) (output_of second)) → Covered c d first second
   two_cover c m d (Future f) before second reached one turn told = record {
     some = one.some;
@@ -202,7 +202,7 @@ module _ {C A B X Y E : Type 0} (w : Frame C) (a : FutureOf A C (Result X E)) (b
       more = unless_reached w b q false before m second d turn
   two_cover c m d (Done (Ok x)) before second reached one turn told = by_second second (b_covers before m second d turn) told
     where
-      by_second : (s : MaybeDone C B (Result Y E)) → MaybeCovers b w.number w.work w.reaches w.watcher q.needs m s d → Pending ≡ try_join_rule (both_results (ok_first x) (output_of s)) → Covered c d (Done (Ok x)) s
+      by_second : (s : MaybeDone B (Result Y E)) → MaybeCovers b w.number w.work w.reaches w.watcher q.needs m s d → Pending ≡ try_join_rule (both_results (ok_first x) (output_of s)) → Covered c d (Done (Ok x)) s
       by_second (Future g) two is = record {
         some = two.some;
         armed = heard_after w c m d two.some reached two.armed;
@@ -213,7 +213,7 @@ module _ {C A B X Y E : Type 0} (w : Frame C) (a : FutureOf A C (Result X E)) (b
   two_cover c m d (Done (Err e)) before second reached one turn told = absurd (no_answer (Err e) told)
   two_cover c m d Gone before second reached one turn told = absurd one
 
-  pub try_joins_cover : (f : TryJoin2 C A B (Result X E) (Result Y E)) (c : C) (g : TryJoin2 C A B (Result X E) (Result Y E)) (d : C) → TryJoinPolls a b f c Pending g d → CoversIn w c d (TryJoinNeeds p.needs q.needs g)
+  pub try_joins_cover : (f : TryJoin2 A B X Y E) (c : C) (g : TryJoin2 A B X Y E) (d : C) → TryJoinPolls a b f c Pending g d → CoversIn w c d (TryJoinNeeds p.needs q.needs g)
   try_joins_cover f c g d it =
       subst (λ v. CoversIn w c d (TryJoinNeeds p.needs q.needs v)) (sym it.waits.0) (subst (λ e. Covered c e it.first it.second) (sym it.waits.1)
       (two_cover c it.between it.after it.first f.b it.second (advance_reached a w.reaches w.itself w.on p.reach p.left f.a c it.first it.between it.a_polled) (a_covers f.a c it.first it.between it.a_polled) it.b_polled it.answer))

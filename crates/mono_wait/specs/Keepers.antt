@@ -11,7 +11,7 @@ use Rattle.mono_model.specs.declared.error.SleepError.{SleepError}
 use Rattle.mono_time.specs.Sleeps.{SleepTable}
 use Rattle.mono_time.specs.Futures.{SleepPolls}
 use Rattle.mono_time.specs.declared.sleeps.Sleep.{Sleep}
-use Rattle.mono_serve.specs.LeaseCalls.{lists_task, is_keeper}
+use Rattle.mono_serve.specs.LeaseCalls.{lists_task, is_keeper, standing}
 use Rattle.mono_serve.specs.Takes.{deadline_of}
 use Rattle.mono_serve.specs.Keepers.{AfterNap, AfterMade, RestsUntil, AfterRest, RestsIn, AfterShown, Keeps, KeeperPolls}
 use Rattle.mono_serve.specs.declared.leases.Leases.{Leases}
@@ -37,18 +37,18 @@ keeper_listed : (a : Leases) (task : ℕ) → a.keeper ≡ Some task → lists_t
 keeper_listed a task is = ap (λ k. is_keeper k task || others a task) is ∙ ap (λ b. b || others a task) (eq-eqb task task refl)
   where
     others : Leases → ℕ → Bool
-    others a task = list_any (λ w. w.task == task) a.waiters.items
+    others a task = list_any (λ w. w.task == task) (standing a)
 
 module _ {C : Type 0} (w : Frame C) (part : C → Leases) (sleeps : C → SleepTable) (nanos : C → ℕ) (lists : C → ℕ → Bool)
     (same_number : (a b : C) → w.reaches a b → w.number b ≡ w.number a)
     (watches : (c : C) (s : ℕ) → w.watcher c (of_sleep s) ≡ waker_in (value_at (sleeps c).table s))
     (watches_peers : (c : C) (u : ℕ) → w.watcher c (of_peers u) ≡ peers_watcher (lists c u) (w.work c) u)
-    (lists_part : (c : C) (t : ℕ) → lists_task (part c) t ≡ true → lists c t ≡ true)
+    (names_part : (c : C) (t : ℕ) → lists_task (part c) t ≡ true → lists c t ≡ true)
     -- the context and the task at the beginning of the poll, and the context at its end
     (c : C) (t : ℕ) (is : t ≡ w.number c) (d : C) (whole : w.reaches c d) where
   -- the task was the keeper at some moment
   kept_heard : (m : C) → w.reaches c m → w.reaches m d → (part m).keeper ≡ Some (w.number c) → HeardIn w c d (of_peers t)
-  kept_heard m before since kept = listed_heard w same_number lists watches_peers c m d t before since is (lists_part m (w.number c) (keeper_listed (part m) (w.number c) kept))
+  kept_heard m before since kept = listed_heard w same_number lists watches_peers c m d t before since is (names_part m (w.number c) (keeper_listed (part m) (w.number c) kept))
 
   after_nap : (answer : Poll (Result ⊤ Error)) (sleep : Sleep) (r m e : C) (g : Phase) → w.reaches c r → (part r).keeper ≡ Some (w.number c) → w.reaches r m → SleepPolls w.number sleeps w.work w.reaches sleep m answer sleep e
       → AfterNap part w.number sleeps w.work w.reaches answer sleep e Pending g d → CoversIn w c d (KeeperNeeds t g)
@@ -105,7 +105,7 @@ module _ {C : Type 0} (w : Frame C) (part : C → Leases) (sleeps : C → SleepT
 
   after_shown : (answer : Result ⊤ AllocError) (a : C) (g : Phase) → w.reaches c a → AfterShown part w.number nanos sleeps w.work w.reaches answer a Pending g d → CoversIn w c d (KeeperNeeds t g)
   after_shown (Err lack) a g before q = absurd (no_answer _ q.0)
-  after_shown (Ok done) a g before q = rests_in q.0 g (w.on c a q.0 before q.2) q.3
+  after_shown (Ok done) a g before q = rests_in a g before q
 
   keeps : (a : C) (g : Phase) → w.reaches c a → Keeps part w.number nanos sleeps w.work w.reaches a Pending g d → CoversIn w c d (KeeperNeeds t g)
   keeps a g before q = after_shown q.answer q.middle g (w.on c a q.middle before q.reached) q.rest

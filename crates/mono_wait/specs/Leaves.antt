@@ -1,11 +1,10 @@
 -- The source of a sleep.
-use Rattle.std.specs.Prelude.{◌≡◌, ℕ, ⊤, true, false, Bool, Option, Some, None, Result, Ok, Err, nat_le}
-use Rattle.std.proofs.Common.{inl, sym, ap, ◌∙◌, subst, refl}
+use Rattle.std.specs.Prelude.{◌≡◌, ℕ, ⊤, Option, Some}
+use Rattle.std.proofs.Common.{inl, sym, ap, ◌∙◌, subst}
 use Rattle.mono_model.specs.Tasks.{Tasks}
 use Rattle.mono_model.specs.Table.{value_at}
-use Rattle.mono_model.specs.declared.poll.Poll.{Poll}
 use Rattle.mono_model.specs.declared.poll.Poll.TheVariants.{Pending}
-use Rattle.mono_time.specs.Sleeps.{SleepTable, with_polled_sleep}
+use Rattle.mono_time.specs.Sleeps.{SleepTable}
 use Rattle.mono_time.specs.Futures.{SleepPolls}
 use Rattle.mono_time.specs.declared.sleeps.Sleep.{Sleep}
 use Rattle.mono_machine.specs.Watches.{Source, of_sleep}

@@ -15,6 +15,10 @@ pub mod Runtime
 pub mod PendingTurns
 pub mod JournalWaits
 pub mod CallWaits
+pub mod WaitPlaces
+pub mod FormPlaces
+pub mod JoinPlaces
+pub mod JournalPlaces
 pub mod Frames
 pub mod Leads
 pub mod Sequences
@@ -33,6 +37,7 @@ pub mod Peers
 pub mod ListedTasks
 pub mod Moments
 pub mod Places
+pub mod Standings
 pub mod Locks
 pub mod Receives
 pub mod Keepers

@@ -1,11 +1,11 @@
--- A pending future over a shared value stands in it with the running task.
-use Rattle.std.specs.Prelude.{◌≡◌, ◌⊎◌, ◌==◌, ◌||◌, ℕ, ⊤, Bool, true, false, List, [], ◌∷◌, ◌++◌, Option, Some, None}
+-- A pending future over a shared value stands in it with the running task, at its ticket.
+use Rattle.std.specs.Prelude.{◌≡◌, ◌==◌, ◌&&◌, ◌||◌, MatchBool, ℕ, ⊤, Bool, true, false, List, [], ◌∷◌, ◌++◌, Option, Some, None, Ok}
 use Rattle.std.specs.List.{list_any}
 use Rattle.std.proofs.Common.{inl, inr, cond, sym, ap, ◌∙◌, subst, refl, eq-eqb}
+use Rattle.std.proofs.lemmas.Bool.Decides.{eqb_tells}
 use Rattle.mono_model.specs.Tasks.{Tasks}
 use Rattle.mono_model.specs.declared.poll.Poll.TheVariants.{Pending}
-use Rattle.mono_sync.specs.Lines.{stands, still_waits, has_task, renewed, Renews}
-use Rattle.mono_sync.specs.Oneshot.{is_receiver}
+use Rattle.mono_sync.specs.Lines.{waits_at, has_task, holder_of, HasRoom, Marks, Comes, ComesOf, Joins}
 use Rattle.mono_sync.specs.Messages as message
 use Rattle.mono_sync.specs.Permits.{AcquirePolls}
 use Rattle.mono_sync.specs.Notifications.{NotifiedPolls}
@@ -14,6 +14,7 @@ use Rattle.mono_sync.specs.Changes.{ChangedPolls}
 use Rattle.mono_sync.specs.Deliveries as delivery
 use Rattle.mono_sync.specs.declared.lines.Waiter.{Waiter}
 use Rattle.mono_sync.specs.declared.lines.Line.{Line}
+use Rattle.mono_sync.specs.declared.lines.Coming.TheVariants.{Waits}
 use Rattle.mono_sync.specs.declared.mpsc.Channel.{Channel}
 use Rattle.mono_sync.specs.declared.semaphores.Semaphore.{Semaphore}
 use Rattle.mono_sync.specs.declared.notices.Notify.{Notify}
@@ -24,6 +25,15 @@ use Rattle.mono_sync.specs.declared.oneshot.Oneshot.{Oneshot}
 false-true : false ≡ true → ⊥
 false-true e = cc
 
+none-some : (t : ℕ) → None ≡ Some t → ⊥
+none-some t e = cc
+
+same_some : (i j : ℕ) → Some i ≡ Some j → i ≡ j
+same_some i j e = cc
+
+same_number : (u t : ℕ) → (u == t) ≡ true → u ≡ t
+same_number u t is = elim (eqb_tells u t) [ inl here ↦ here.1 | inr apart ↦ absurd (false-true (sym apart.0 ∙ is)) ]
+
 or_right : (a b : Bool) → b ≡ true → (a || b) ≡ true
 or_right true b is = refl
 or_right false b is = is
@@ -31,60 +41,105 @@ or_right false b is = is
 or_left : (a b : Bool) → a ≡ true → (a || b) ≡ true
 or_left a b is = ap (λ x. x || b) is
 
--- a task at the end of the line
-last_has : (ws : List Waiter) (t task : ℕ) → list_any (λ w. w.task == task) (ws ++ record { ticket = t; task = task } ∷ []) ≡ true
-last_has [] t task = or_left (task == task) false (eq-eqb task task refl)
-last_has (w ∷ ws) t task = or_right (w.task == task) _ (last_has ws t task)
+or_either : (a b x y : Bool) → (a ≡ true → x ≡ true) → (b ≡ true → y ≡ true) → (a || b) ≡ true → (x || y) ≡ true
+or_either true b x y f g is = ap (λ z. z || y) (f refl)
+or_either false b true y f g is = refl
+or_either false b false y f g is = g is
 
--- a task in the place of a future that waits
-place_has : (ws : List Waiter) (t task : ℕ) → stands ws t ≡ true → list_any (λ w. w.task == task) (renewed ws t task) ≡ true
-place_has [] t task is = absurd (false-true is)
-place_has (w ∷ ws) t task is = by_first (w.ticket == t) is (place_has ws t task)
+and_right : (a b : Bool) → (a && b) ≡ true → b ≡ true
+and_right true b is = is
+and_right false b is = absurd (false-true is)
+
+both : (a b : Bool) → a ≡ true → b ≡ true → (a && b) ≡ true
+both a b p q = ap (λ x. x && b) p ∙ q
+
+-- who waits at a ticket waits
+waits_some : (ws : List Waiter) (k t : ℕ) → waits_at ws k t ≡ true → list_any (λ w. w.task == t) ws ≡ true
+waits_some [] k t is = absurd (false-true is)
+waits_some (w ∷ ws) k t is = or_either ((w.ticket == k) && (w.task == t)) (waits_at ws k t) (w.task == t) (list_any (λ v. v.task == t) ws) (and_right (w.ticket == k) (w.task == t)) (waits_some ws k t) is
+
+-- the task of the future with a ticket
+holder_waits : (ws : List Waiter) (k t : ℕ) → holder_of ws k ≡ Some t → waits_at ws k t ≡ true
+holder_waits [] k t is = absurd (none-some t is)
+holder_waits (w ∷ ws) k t is = by_first (w.ticket == k) is (holder_waits ws k t)
   where
-    by_first : (b : Bool) → (b || stands ws t) ≡ true → (stands ws t ≡ true → list_any (λ v. v.task == task) (renewed ws t task) ≡ true)
-        → list_any (λ v. v.task == task) (cond b (record { ticket = t; task = task } ∷ ws) (w ∷ renewed ws t task)) ≡ true
-    by_first true all later = or_left (task == task) _ (eq-eqb task task refl)
-    by_first false all later = or_right (w.task == task) _ (later all)
+    by_first : (b : Bool) → cond b (Some w.task) (holder_of ws k) ≡ Some t → (holder_of ws k ≡ Some t → waits_at ws k t ≡ true) → ((b && (w.task == t)) || waits_at ws k t) ≡ true
+    by_first true holds later = or_left (w.task == t) _ (eq-eqb w.task t (same_some w.task t holds))
+    by_first false holds later = later holds
 
-module _ (a b : Line) (task : ℕ) where
-  joined_has : (t : ℕ) → b.waiters.items ≡ a.waiters.items ++ record { ticket = t; task = task } ∷ [] → has_task b task ≡ true
-  joined_has t is = ap (λ ws. list_any (λ w. w.task == task) ws) is ∙ last_has a.waiters.items t task
+-- a task at the end of the line
+last_waits : (ws : List Waiter) (w : Waiter) (k t : ℕ) → w.ticket ≡ k → w.task ≡ t → waits_at (ws ++ w ∷ []) k t ≡ true
+last_waits [] w k t at is = or_left ((w.ticket == k) && (w.task == t)) false (both (w.ticket == k) (w.task == t) (eq-eqb w.ticket k at) (eq-eqb w.task t is))
+last_waits (v ∷ ws) w k t at is = or_right ((v.ticket == k) && (v.task == t)) _ (last_waits ws w k t at is)
 
-  renewed_has : (ticket : Option ℕ) → still_waits a ticket ≡ true → Renews a ticket task b → has_task b task ≡ true
-  renewed_has None waits is = absurd is
-  renewed_has (Some t) waits is = ap (λ ws. list_any (λ w. w.task == task) ws) is.0 ∙ place_has a.waiters.items t task waits
+-- The future has a ticket, and this task stands in the line with it.
+abbrev pub StandsIn : Line → Option ℕ → ℕ → Type 0
+StandsIn a ticket task = (k : ℕ) × (ticket ≡ Some k) × (waits_at a.waiters.items k task ≡ true)
+
+pub named_in : (a : Line) (ticket : Option ℕ) (task : ℕ) → StandsIn a ticket task → has_task a task ≡ true
+named_in a ticket task (k, at, waits) = waits_some a.waiters.items k task waits
+
+-- this is its only ticket
+pub stands_at : (a : Line) (ticket : Option ℕ) (task : ℕ) → StandsIn a ticket task → (k : ℕ) → ticket ≡ Some k → waits_at a.waiters.items k task ≡ true
+stands_at a ticket task (n, at, waits) k is = subst (λ m. waits_at a.waiters.items m task ≡ true) (same_some n k (sym at ∙ is)) waits
+
+module _ (a b : Line) (task room : ℕ) where
+  comes_if : (k u : ℕ) (c : Bool) → (u == task) ≡ c → holder_of a.waiters.items k ≡ Some u → MatchBool c ((Waits ≡ Waits) × (b ≡ a)) (HasRoom b room Waits × Marks a k u b) → waits_at b.waiters.items k task ≡ true
+  comes_if k u true is holds p = ap (λ l. waits_at l.waiters.items k task) p.1 ∙ holder_waits a.waiters.items k task (holds ∙ ap Some (same_number u task is))
+  comes_if k u false is holds p = absurd p.0
+
+  comes_of : (k : ℕ) (o : Option ℕ) → holder_of a.waiters.items k ≡ o → ComesOf o a k task room Waits b → waits_at b.waiters.items k task ≡ true
+  comes_of k None holds p = absurd p.0
+  comes_of k (Some u) holds p = comes_if k u (u == task) refl holds p
+
+  -- a future that waits still
+  comes_waits : (ticket left : Option ℕ) → left ≡ ticket → Comes a ticket task room Waits b → StandsIn b left task
+  comes_waits None left same p = absurd p.0
+  comes_waits (Some k) left same p = (k, same, comes_of k (holder_of a.waiters.items k) refl p)
+
+-- a future that waits from now on
+joins_waits : (a b : Line) (task t : ℕ) (left : Option ℕ) → left ≡ Some t → Joins a task (Ok t) b → StandsIn b left task
+joins_waits a b task t left same p =
+    (t, same, ap (λ ws. waits_at ws t task) p.1 ∙ last_waits a.waiters.items (record { ticket = a.next; task = task; has_left = false }) t task (sym p.0) refl)
 
 module _ {T C : Type 0} (part : C → Channel T) (number : C → ℕ) (work : C → Tasks ⊤) where
+  pub send_stands : (m : Option T) (ticket : Option ℕ) (c : C) (kept : Option T) (left : Option ℕ) (d : C) → message.SendPolls part number work m ticket c Pending kept left d → StandsIn (part d).senders left (number c)
+  send_stands None ticket c kept left d p = absurd p
+  send_stands (Some x) ticket c kept left d (inl p) = comes_waits (part c).senders (part d).senders (number c) _ ticket left p.1 p.2.2
+  send_stands (Some x) ticket c kept left d (inr (t, p)) = joins_waits p.2.2.0 (part d).senders (number c) t left p.1 p.2.2.1.1
+
+  pub recv_stands : (ticket : Option ℕ) (c : C) (left : Option ℕ) (d : C) → message.RecvPolls part number work ticket c Pending left d → StandsIn (part d).receivers left (number c)
+  recv_stands ticket c left d (inl p) = comes_waits (part c).receivers (part d).receivers (number c) _ ticket left p.0 p.1.1
+  recv_stands ticket c left d (inr (t, p)) = joins_waits p.1.1.0 (part d).receivers (number c) t left p.0 p.1.1.1.1
+
   pub send_listed : (m : Option T) (ticket : Option ℕ) (c : C) (kept : Option T) (left : Option ℕ) (d : C) → message.SendPolls part number work m ticket c Pending kept left d
       → (has_task (part d).senders (number c) || has_task (part d).receivers (number c)) ≡ true
-  send_listed None ticket c kept left d p = absurd p
-  send_listed (Some x) ticket c kept left d (inl p) = or_left _ _ (renewed_has (part c).senders (part d).senders (number c) ticket p.2.2 p.2.3.1)
-  send_listed (Some x) ticket c kept left d (inr (t, p)) = or_left _ _ (joined_has (part c).senders (part d).senders (number c) t p.2.5)
+  send_listed m ticket c kept left d p = or_left _ _ (named_in (part d).senders left (number c) (send_stands m ticket c kept left d p))
 
   pub recv_listed : (ticket : Option ℕ) (c : C) (left : Option ℕ) (d : C) → message.RecvPolls part number work ticket c Pending left d → (has_task (part d).senders (number c) || has_task (part d).receivers (number c)) ≡ true
-  recv_listed ticket c left d (inl p) = or_right _ _ (renewed_has (part c).receivers (part d).receivers (number c) ticket p.1.1 p.1.2.2)
-  recv_listed ticket c left d (inr (t, p)) = or_right _ _ (joined_has (part c).receivers (part d).receivers (number c) t p.1.4)
+  recv_listed ticket c left d p = or_right _ _ (named_in (part d).receivers left (number c) (recv_stands ticket c left d p))
 
 module _ {C : Type 0} (number : C → ℕ) (work : C → Tasks ⊤) where
-  pub acquire_listed : (part : C → Semaphore) (ticket : Option ℕ) (c : C) (left : Option ℕ) (d : C) → AcquirePolls part number work ticket c Pending left d → has_task (part d).line (number c) ≡ true
-  acquire_listed part ticket c left d (inl p) = renewed_has (part c).line (part d).line (number c) ticket p.1.0 p.1.2
-  acquire_listed part ticket c left d (inr (t, p)) = joined_has (part c).line (part d).line (number c) t p.1.5
+  pub acquire_stands : (part : C → Semaphore) (ticket : Option ℕ) (c : C) (left : Option ℕ) (d : C) → AcquirePolls part number work ticket c Pending left d → StandsIn (part d).line left (number c)
+  acquire_stands part ticket c left d (inl p) = comes_waits (part c).line (part d).line (number c) _ ticket left p.0 p.1.1
+  acquire_stands part ticket c left d (inr (t, p)) = joins_waits p.1.1.0 (part d).line (number c) t left p.0 p.1.1.1.1
 
-  awaits_listed : (a b : Notify) (ticket : Option ℕ) (task : ℕ) → Awaits a ticket task notifying.Waits b → has_task b.line task ≡ true
-  awaits_listed a b None task p = absurd p
-  awaits_listed a b (Some t) task p = renewed_has a.line b.line task (Some t) p.0 p.1
+  awaits_stands : (a b : Notify) (ticket left : Option ℕ) (task : ℕ) → left ≡ ticket → Awaits a ticket task notifying.Waits b → StandsIn b.line left task
+  awaits_stands a b None left task same p = absurd p
+  awaits_stands a b (Some k) left task same p = comes_waits a.line b.line task _ (Some k) left same p.0
 
-  joins_listed : (a b : Notify) (ticket : Option ℕ) (task u : ℕ) → Awaits a ticket task (notifying.Joined u) b → has_task b.line task ≡ true
-  joins_listed a b None task u p = joined_has a.line b.line task u p.3
-  joins_listed a b (Some t) task u p = absurd p
+  joins_stands : (a b : Notify) (ticket left : Option ℕ) (task u : ℕ) → left ≡ Some u → Awaits a ticket task (notifying.Joined u) b → StandsIn b.line left task
+  joins_stands a b None left task u same p = joins_waits a.line b.line task u left same p.1
+  joins_stands a b (Some k) left task u same p = joins_waits p.0.0 b.line task u left same p.0.1.2
 
-  pub notified_listed : (part : C → Notify) (ticket : Option ℕ) (c : C) (left : Option ℕ) (d : C) → NotifiedPolls part number work ticket c Pending left d → has_task (part d).line (number c) ≡ true
-  notified_listed part ticket c left d (inl p) = awaits_listed (part c) (part d) ticket (number c) p.1
-  notified_listed part ticket c left d (inr (t, p)) = joins_listed (part c) (part d) ticket (number c) t p.1
+  pub notified_stands : (part : C → Notify) (ticket : Option ℕ) (c : C) (left : Option ℕ) (d : C) → NotifiedPolls part number work ticket c Pending left d → StandsIn (part d).line left (number c)
+  notified_stands part ticket c left d (inl p) = awaits_stands (part c) (part d) ticket left (number c) p.0 p.1
+  notified_stands part ticket c left d (inr (t, p)) = joins_stands (part c) (part d) ticket left (number c) t p.0 p.1
 
-  pub changed_listed : {T : Type 0} (part : C → Watch T) (seen : ℕ) (ticket : Option ℕ) (c : C) (left : Option ℕ) (d : C) → ChangedPolls part number work seen ticket c Pending left d → has_task (part d).line (number c) ≡ true
-  changed_listed part seen ticket c left d (inl p) = renewed_has (part c).line (part d).line (number c) ticket p.1.2 p.1.3
-  changed_listed part seen ticket c left d (inr (t, p)) = joined_has (part c).line (part d).line (number c) t p.1.4
+  pub changed_stands : {T : Type 0} (part : C → Watch T) (seen : ℕ) (ticket : Option ℕ) (c : C) (left : Option ℕ) (d : C) → ChangedPolls part number work seen ticket c Pending left d → StandsIn (part d).line left (number c)
+  changed_stands part seen ticket c left d (inl p) = comes_waits (part c).line (part d).line (number c) _ ticket left p.0 p.1.2
+  changed_stands part seen ticket c left d (inr (t, p)) = joins_waits p.1.2.0 (part d).line (number c) t left p.0 p.1.2.1.1
 
-  pub delivery_listed : {T : Type 0} (part : C → Oneshot T) (c d : C) → delivery.RecvPolls part number work c Pending d → is_receiver (part d).receiver (number c) ≡ true
-  delivery_listed part c d p = ap (λ r. is_receiver r (number c)) p.0.3 ∙ eq-eqb (number c) (number c) refl
+  pub delivery_stands : {T : Type 0} (part : C → Oneshot T) (ticket : Option ℕ) (c : C) (left : Option ℕ) (d : C) → delivery.RecvPolls part number work ticket c Pending left d → StandsIn (part d).line left (number c)
+  delivery_stands part ticket c left d (inl p) = comes_waits (part c).line (part d).line (number c) _ ticket left p.0 p.1.1
+  delivery_stands part ticket c left d (inr (t, p)) = joins_waits p.1.1.0 (part d).line (number c) t left p.0 p.1.1.1.2

@@ -1,5 +1,5 @@
 -- The source of a future that waits for threads, which hold a waker of its task.
-use Rattle.std.specs.Prelude.{◌≡◌, ◌⊎◌, ℕ, ⊤, Bool, true, false, ◌==◌, ◌&&◌, Option, Some, None}
+use Rattle.std.specs.Prelude.{◌≡◌, ℕ, ⊤, Bool, true, false, ◌==◌, ◌&&◌, Option, Some, None}
 use Rattle.std.proofs.Common.{inl, inr, cond, sym, ap, ◌∙◌, subst, refl, eq-eqb}
 use Rattle.mono_model.specs.Tasks.{Tasks, Task, Phase, idle, queued, running, done, taken, is_finished}
 use Rattle.mono_model.specs.Table.{value_at}

@@ -1,5 +1,5 @@
 -- The source of a future that waits for other tasks, which find its task in a value that they share.
-use Rattle.std.specs.Prelude.{◌≡◌, ◌⊎◌, ℕ, ⊤, Bool, true, false, Option, Some, None}
+use Rattle.std.specs.Prelude.{◌≡◌, ℕ, ⊤, Bool, true, false, Option, Some, None}
 use Rattle.std.proofs.Common.{inl, inr, cond, sym, ap, ◌∙◌, subst, refl}
 use Rattle.mono_model.specs.Tasks.{Tasks, Task}
 use Rattle.mono_model.specs.Table.{value_at}

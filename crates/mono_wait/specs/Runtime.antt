@@ -1,5 +1,5 @@
 -- The waiting tasks, by the parts of a runtime and by the machine that they refine.
-use Rattle.std.specs.Prelude.{◌≡◌, ℕ, ⊤, Bool, true, false, ◌==◌, ◌&&◌, if◌then◌else◌, zero, suc, map, List, [], ◌∷◌, Option, Some, None}
+use Rattle.std.specs.Prelude.{◌≡◌, ℕ, Bool, true, false, ◌==◌, ◌&&◌, zero, suc, map, [], ◌∷◌, Option, Some, None}
 use Rattle.std.specs.Option.{option_map}
 use Rattle.std.proofs.Common.{cond, refl, sym, ap, ◌∙◌}
 use Rattle.mono_model.specs.Table.{Table, value_at}
@@ -11,7 +11,7 @@ use Rattle.mono_time.specs.Refinement.{seen}
 use Rattle.mono_time.specs.Timers.{sleeps_of}
 use Rattle.mono_machine.specs.Machine.{Machine}
 use Rattle.mono_machine.specs.History.{waiter_at}
-use Rattle.mono_rt.specs.Numbering.{numbered, task_numbered, phase_numbered}
+use Rattle.mono_rt.specs.Numbering.{task_numbered, phase_numbered}
 use Rattle.mono_rt.specs.Refinement.{Hosting, Matches, hosting_of}
 use Rattle.mono_rt.specs.declared.contexts.Cx.{Cx}
 use Rattle.mono_rt.specs.declared.parts.state.Parts.{Parts}

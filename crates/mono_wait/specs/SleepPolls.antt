@@ -1,14 +1,14 @@
 -- A poll of a sleep that is pending makes the task its waker.
-use Rattle.std.proofs.Common.{◌≡◌, inl, inr, ℕ, true, false, Bool, cond, set, length, List, Some, None, Option, Result, Ok, Err, refl, ap, sym, ◌∙◌, arith}
-use Rattle.std.specs.Prelude.{⊤, nat_le}
+use Rattle.std.proofs.Common.{◌≡◌, inl, inr, ℕ, true, false, Bool, cond, length, Some, None, Option, Result, Ok, refl, ap, sym, ◌∙◌}
+use Rattle.std.specs.Prelude.{⊤}
 use Rattle.std.proofs.lemmas.Bool.{cases_lt}
-use Rattle.std.proofs.lemmas.List.{get_or-set_same, get_or_past, length-set}
-use Rattle.mono_model.specs.Table.{Table, value_at}
+use Rattle.std.proofs.lemmas.List.{get_or-set_same, get_or_past}
+use Rattle.mono_model.specs.Table.{value_at}
 use Rattle.mono_model.specs.SleepAnswers.{poll_of}
 use Rattle.mono_model.specs.declared.error.Error.{Error}
 use Rattle.mono_model.specs.declared.poll.Poll.{Poll}
 use Rattle.mono_model.specs.declared.poll.Poll.TheVariants.{Ready, Pending}
-use Rattle.mono_time.specs.Sleeps.{SleepTable, Kept, fresh, armed, elapsed, kept_waker, polled_kept, is_kept_ready, sleep_poll_answer, with_polled_sleep, of_live_sleep, changed_value, at_tick}
+use Rattle.mono_time.specs.Sleeps.{SleepTable, Kept, fresh, armed, elapsed, kept_waker, polled_kept, is_kept_ready, sleep_poll_answer, with_polled_sleep, of_live_sleep, changed_value}
 use Rattle.mono_wait.specs.Sources.{waker_in}
 
 no_ready : {A : Type 0} (x : A) → Pending ≡ Ready x → ⊥

@@ -1,5 +1,5 @@
 -- The running task is registered at a source, or was woken in its turn.
-use Rattle.std.specs.Prelude.{◌≡◌, ◌⊎◌, ℕ, ⊤, Bool, true, false, ◌==◌, ◌&&◌, if◌then◌else◌, Option, Some, None}
+use Rattle.std.specs.Prelude.{◌≡◌, ◌⊎◌, ℕ, ⊤, Bool, true, ◌==◌, ◌&&◌, if◌then◌else◌, Option, Some, None}
 use Rattle.mono_model.specs.Table.{Table, value_at}
 use Rattle.mono_model.specs.Tasks.{Tasks, Task, is_finished}
 use Rattle.mono_time.specs.Sleeps.{Kept, kept_waker}

@@ -1,5 +1,5 @@
 -- A wake stirs the task.
-use Rattle.std.proofs.Common.{◌≡◌, inl, inr, ℕ, true, set, length, List, Some, None, Option, refl, ap, sym, ◌∙◌, arith}
+use Rattle.std.proofs.Common.{◌≡◌, inl, inr, ℕ, true, set, length, Some, None, Option, refl, ap, ◌∙◌, arith}
 use Rattle.std.proofs.lemmas.Bool.{cases_lt}
 use Rattle.std.proofs.lemmas.List.{get_or-set_same, get_or_past, length-set}
 use Rattle.mono_model.specs.Table.{Table, value_at}

@@ -6,7 +6,7 @@ use mono_channel::{Recv, Send};
 use mono_inbox::Unpark;
 
 // It needs the threads that hold a waker of its task: its senders.
-impl<T: Drop, U: Unpark, C: RemoteWaitContext<U>> Waits<C> for Recv<T, U> {
+impl<T: Drop, U: Unpark, C: RemoteWaitContext<U>> Waits<C> for Recv<'_, T, U> {
     ghost needs = { λ f. OutsideNeeds f.task };
 
     ghost polls_reach = { λ f c r g d p. p.1 };
@@ -17,7 +17,7 @@ impl<T: Drop, U: Unpark, C: RemoteWaitContext<U>> Waits<C> for Recv<T, U> {
 }
 
 // It needs the threads that hold a waker of its task: its receiver.
-impl<T: Drop, U: Unpark, C: RemoteWaitContext<U>> Waits<C> for Send<T, U> {
+impl<T: Drop, U: Unpark, C: RemoteWaitContext<U>> Waits<C> for Send<'_, T, U> {
     ghost needs = { λ f. OutsideNeeds f.task };
 
     ghost polls_reach = { λ f c r g d p. p.1 };

@@ -8,7 +8,7 @@ use crate::waits::{WaitContext, Waits};
 use mono_combine::{JoinList, TryJoin2, TryJoinList};
 
 // It needs the sources of each unfinished branch.
-impl<C, A, B, X, Y, E> Waits<C> for TryJoin2<C, A, B>
+impl<C, A, B, X, Y, E> Waits<C> for TryJoin2<A, B, X, Y, E>
 where
     C: WaitContext,
     A: Waits<C, Output = Result<X, E>>,
@@ -27,7 +27,7 @@ where
 }
 
 // It needs the sources of each unfinished branch.
-impl<C: WaitContext, T: Waits<C, Output: Drop>> Waits<C> for JoinList<C, T> {
+impl<C: WaitContext, X: Drop, T: Waits<C, Output = X>> Waits<C> for JoinList<T, X> {
     ghost needs = { λ f. ListNeeds T.needs f.branches.items };
 
     ghost polls_reach = { λ f c r g d. join_list_reached (frame_of C.number C.work C.reaches C.watcher C.reaches_itself C.reaches_on) T.TaskFuture (part_of (frame_of C.number C.work C.reaches C.watcher C.reaches_itself C.reaches_on) T.TaskFuture T.polls_reach T.cancels_reach T.needs T.covers) f.branches.items c (answer_as (λ v. v.items) r) g.branches.items g.has_answered d };
@@ -38,7 +38,7 @@ impl<C: WaitContext, T: Waits<C, Output: Drop>> Waits<C> for JoinList<C, T> {
 }
 
 // It needs the sources of each unfinished branch.
-impl<C, X, E, T> Waits<C> for TryJoinList<C, T>
+impl<C, X, E, T> Waits<C> for TryJoinList<T, X, E>
 where
     C: WaitContext,
     X: Drop,

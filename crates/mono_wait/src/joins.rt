@@ -5,7 +5,7 @@ use crate::waits::{WaitContext, Waits};
 use mono_combine::{Join2, MaybeDone};
 
 // It needs the sources of its future, and none once that has answered.
-impl<C: WaitContext, F: Waits<C, Output: Drop>> Waits<C> for MaybeDone<C, F> {
+impl<C: WaitContext, X: Drop, F: Waits<C, Output = X>> Waits<C> for MaybeDone<F, X> {
     ghost needs = { MaybeNeeds F.needs };
 
     ghost polls_reach = { maybe_reached F.TaskFuture C.reaches C.reaches_itself C.reaches_on F.polls_reach F.cancels_reach };
@@ -16,8 +16,14 @@ impl<C: WaitContext, F: Waits<C, Output: Drop>> Waits<C> for MaybeDone<C, F> {
 }
 
 // It needs the sources of each unfinished branch.
-impl<C: WaitContext, A: Waits<C, Output: Drop>, B: Waits<C, Output: Drop>> Waits<C>
-    for Join2<C, A, B> {
+impl<C, A, B, X, Y> Waits<C> for Join2<A, B, X, Y>
+where
+    C: WaitContext,
+    A: Waits<C, Output = X>,
+    B: Waits<C, Output = Y>,
+    X: Drop,
+    Y: Drop,
+{
     ghost needs = { JoinNeeds A.needs B.needs };
 
     ghost polls_reach = { join_reached A.TaskFuture B.TaskFuture C.reaches C.reaches_itself C.reaches_on A.polls_reach A.cancels_reach B.polls_reach B.cancels_reach };

@@ -1,5 +1,5 @@
 //! The effects of a pending poll and of a pending turn on their task in the machine, as functions that do nothing.
-ghost use Rattle.std.specs.Prelude.{◌≡◌, ℕ, Bool, true, false, List, ◌++◌, Option, Some};
+ghost use Rattle.std.specs.Prelude.{◌≡◌, ℕ, Bool, true, false, List, ◌++◌, Some};
 ghost use Rattle.mono_model.specs.declared.poll.Poll.{Poll};
 ghost use Rattle.mono_machine.specs.Machine.{Machine, IsValid};
 ghost use Rattle.mono_machine.specs.Watches.{Source, of_outside, of_peers};
@@ -7,13 +7,17 @@ ghost use Rattle.mono_machine.specs.declared.events.TurnStep.{TurnStep};
 ghost use Rattle.mono_machine.specs.declared.events.End.TheVariants as end;
 ghost use Rattle.mono_machine.specs.declared.events.Report.{Report};
 ghost use Rattle.mono_rt.specs.declared.parts.journals.Entry.{Entry};
-ghost use Rattle.mono_rt.specs.FuturePolls.{TellsTurn, Polled, PollsMain};
+ghost use Rattle.mono_rt.specs.Stores.{Store};
+ghost use Rattle.mono_rt.specs.FuturePolls.{TellsTurn, Polled, PolledBy, PollsMain};
+ghost use Rattle.mono_rt.specs.ListedTasks.{ParksListedMain};
 ghost use Rattle.mono_wait.specs.Registers.{Registers};
 ghost use Rattle.mono_wait.specs.PendingTurns.{LeavesWaiting};
 ghost use Rattle.mono_wait.specs.JournalWaits.{Waiting};
 ghost use Rattle.mono_wait.specs.CallWaits.{WaitsInCall};
+ghost use Rattle.mono_wait.specs.JournalPlaces.{StaysListed, ListedInCall};
 
 use crate::machines::MachineContext;
+use crate::placed::WaitsIn;
 use crate::waits::{RemoteWaitContext, SharedWaitContext, Waits};
 use mono_blocking::ThreadPool;
 use mono_inbox::Unpark;
@@ -39,9 +43,9 @@ where
     P: ThreadPool + Drop,
     U: Unpark,
     W: SharedState + Drop,
-    ensures { (has_timers : Bool) (m : Machine) (futures left : List (Option F)) (reading : ℕ) (steps : List TurnStep) (answer : Report)
-        → TellsTurn O.output_number W.leads F.TaskFuture has_timers m futures reading steps end.Pending answer left
-        → LeavesWaiting (λ f. F.is_spent f ≡ false) F.needs m futures left steps answer }
+    ensures { (has_timers : Bool) (m : Machine) (store left : Store F W) (reading : ℕ) (steps : List TurnStep) (answer : Report)
+        → TellsTurn O.output_number W.SharedState F.TaskFuture has_timers m store reading steps end.Pending answer left
+        → LeavesWaiting (λ f. F.is_spent f ≡ false) F.needs m store.futures left.futures steps answer }
 {
     what_a_turn_registers_stands();
 }
@@ -57,9 +61,9 @@ where
     P: ThreadPool + Drop,
     U: Unpark,
     W: SharedState + Drop,
-    ensures { (has_timers : Bool) (part : List Entry) (m : Machine) (futures : List (Option F)) (reading t : ℕ) (x : Source) → IsValid m
-        → Polled O.output_number W.leads F.TaskFuture has_timers m futures reading part
-        → Waiting O.output_number W.leads F.TaskFuture F.needs has_timers t x ⊥ m futures reading part }
+    ensures { (has_timers : Bool) (part : List Entry) (m : Machine) (store : Store F W) (reading t : ℕ) (x : Source) → IsValid m
+        → Polled O.output_number W.SharedState F.TaskFuture has_timers m store reading part
+        → Waiting O.output_number W.SharedState F.TaskFuture F.needs has_timers t x ⊥ m store reading part }
 {
     what_a_turn_registers_stands();
 }
@@ -75,12 +79,42 @@ where
     P: ThreadPool + Drop,
     U: Unpark,
     W: SharedState + Drop,
-    ensures { (has_timers : Bool) (first : F) (futures left : List (Option F)) (old new : Machine) (part : List Entry) → IsValid old
-        → ((rest : List Entry) → PollsMain O.output_number W.leads F.TaskFuture has_timers first futures left old (part ++ rest) new rest)
-        → WaitsInCall O.output_number W.leads F.TaskFuture F.needs has_timers first futures old part }
+    ensures { (has_timers : Bool) (first : F) (store left : Store F W) (old new : Machine) (part : List Entry) → IsValid old
+        → ((rest : List Entry) → PollsMain O.output_number W.SharedState F.TaskFuture has_timers first store left old (part ++ rest) new rest)
+        → WaitsInCall O.output_number W.SharedState F.TaskFuture F.needs has_timers first store old part }
 {
     what_a_turn_registers_stands();
 }
+
+/// Shows, for a history whose turns are polls (the clause `polled` of `block_on`), that each park finds its tasks listed.
+/// At each park, the shared value lists a task t at a place p under two conditions. It has not finished; its last turn
+/// ended pending, and left a future that waits at p. Nothing is claimed for the beginning of the history.
+pub fn each_park_finds_its_tasks_listed<F, O, P, U, W>()
+where
+    F: WaitsIn<W, Cx<F, O, P, U, W>, Output = O> + Drop,
+    O: Outcome + Drop,
+    P: ThreadPool + Drop,
+    U: Unpark,
+    W: SharedState + Drop,
+    ensures { (has_timers lasts : Bool) (part : List Entry) (m : Machine) (store : Store F W) (reading t : ℕ) (p : List ℕ) → IsValid m
+        → PolledBy O.output_number W.SharedState F.TaskFuture has_timers lasts m store reading part
+        → StaysListed O.output_number W.SharedState F.TaskFuture F.waits_in has_timers lasts t p ⊥ m store reading part }
+{}
+
+/// Shows that each park of one call of `block_on` finds its tasks listed. The premise is the call's clause `listed`; the
+/// claim is about the history, so no journal has to be kept. At each park, the shared value lists a task t at a place p
+/// if it has not finished, and its last turn in this call ended pending and left a future that waits at p.
+pub fn each_park_of_a_call_finds_its_tasks_listed<F, O, P, U, W>()
+where
+    F: WaitsIn<W, Cx<F, O, P, U, W>, Output = O> + Drop,
+    O: Outcome + Drop,
+    P: ThreadPool + Drop,
+    U: Unpark,
+    W: SharedState + Drop,
+    ensures { (has_timers lasts : Bool) (first : F) (store left : Store F W) (old new : Machine) (part : List Entry) → IsValid old
+        → ((rest : List Entry) → ParksListedMain O.output_number W.SharedState F.TaskFuture has_timers lasts first store left old (part ++ rest) new rest)
+        → ListedInCall O.output_number W.SharedState F.TaskFuture F.waits_in has_timers lasts first store old part }
+{}
 
 /// Shows that a context names a task as one that waits for threads only if it is the running one, and a waker of it was
 /// handed out in this turn.
@@ -90,5 +124,5 @@ pub fn threads_wake_who_handed_out<U: Unpark, C: RemoteWaitContext<U>>()
 
 /// Shows that a context names a task as one that waits for other tasks only if the shared value lists it.
 pub fn peers_wake_who_is_listed<W: SharedState, C: SharedWaitContext<W>>()
-    ensures { (c : C) (u t : ℕ) → C.watcher c (of_peers u) ≡ Some t → (W.lists (C.shared c) u ≡ true) × (t ≡ u) }
+    ensures { (c : C) (u t : ℕ) → C.watcher c (of_peers u) ≡ Some t → (W.names (C.shared c) u ≡ true) × (t ≡ u) }
 {}

@@ -2,7 +2,7 @@
 ghost use Rattle.mono_wait.specs.Frames.{frame_of};
 ghost use Rattle.mono_wait.specs.Keepers.{KeeperNeeds, keepers_cover};
 ghost use Rattle.mono_wait.specs.Peers.{PeersNeeds, peers_cover};
-ghost use Rattle.mono_wait.specs.ListedTasks.{send_listed, recv_listed, acquire_listed, notified_listed, changed_listed, delivery_listed};
+ghost use Rattle.mono_wait.specs.ListedTasks.{send_listed, recv_listed, named_in, acquire_stands, notified_stands, changed_stands, delivery_stands};
 
 use crate::by_task::ByTask;
 use crate::waits::{SharedWaitContext, Waits};
@@ -20,7 +20,7 @@ impl<T: Drop, W: Lists<Channel<T>>, C: SharedWaitContext<W>> Waits<C> for ByTask
 
     ghost cancels_reach = { λ f c d p. p.1 };
 
-    ghost covers = { λ f c g d p. peers_cover C.number C.work C.reaches C.watcher C.reaches_itself C.same_number (λ x. W.lists (C.shared x)) C.watches_peers c d g.task p.1 p.2 (W.lists_part (C.shared d) (C.number c) (send_listed (λ x. W.part (C.shared x)) C.number C.work f.future.message f.future.ticket c g.future.message g.future.ticket d p.0.0)) };
+    ghost covers = { λ f c g d p. peers_cover C.number C.work C.reaches C.watcher C.reaches_itself C.same_number (λ x. W.names (C.shared x)) C.watches_peers c d g.task p.1 p.2 (W.names_part (C.shared d) (C.number c) (send_listed (λ x. W.part (C.shared x)) C.number C.work f.future.message f.future.ticket c g.future.message g.future.ticket d p.0.0)) };
 }
 
 // It needs the tasks that send.
@@ -31,7 +31,7 @@ impl<T: Drop, W: Lists<Channel<T>>, C: SharedWaitContext<W>> Waits<C> for ByTask
 
     ghost cancels_reach = { λ f c d p. p.1 };
 
-    ghost covers = { λ f c g d p. peers_cover C.number C.work C.reaches C.watcher C.reaches_itself C.same_number (λ x. W.lists (C.shared x)) C.watches_peers c d g.task p.1 p.2 (W.lists_part (C.shared d) (C.number c) (recv_listed (λ x. W.part (C.shared x)) C.number C.work f.future.ticket c g.future.ticket d p.0.0)) };
+    ghost covers = { λ f c g d p. peers_cover C.number C.work C.reaches C.watcher C.reaches_itself C.same_number (λ x. W.names (C.shared x)) C.watches_peers c d g.task p.1 p.2 (W.names_part (C.shared d) (C.number c) (recv_listed (λ x. W.part (C.shared x)) C.number C.work f.future.ticket c g.future.ticket d p.0.0)) };
 }
 
 // It needs the tasks that release permits.
@@ -42,7 +42,7 @@ impl<W: Lists<Semaphore>, C: SharedWaitContext<W>> Waits<C> for ByTask<Acquire<W
 
     ghost cancels_reach = { λ f c d p. p.1 };
 
-    ghost covers = { λ f c g d p. peers_cover C.number C.work C.reaches C.watcher C.reaches_itself C.same_number (λ x. W.lists (C.shared x)) C.watches_peers c d g.task p.1 p.2 (W.lists_part (C.shared d) (C.number c) (acquire_listed C.number C.work (λ x. W.part (C.shared x)) f.future.ticket c g.future.ticket d p.0.0)) };
+    ghost covers = { λ f c g d p. peers_cover C.number C.work C.reaches C.watcher C.reaches_itself C.same_number (λ x. W.names (C.shared x)) C.watches_peers c d g.task p.1 p.2 (W.names_part (C.shared d) (C.number c) (named_in (W.part (C.shared d)).line g.future.ticket (C.number c) (acquire_stands C.number C.work (λ x. W.part (C.shared x)) f.future.ticket c g.future.ticket d p.0.0))) };
 }
 
 // It needs the tasks that notify.
@@ -53,7 +53,7 @@ impl<W: Lists<Notify>, C: SharedWaitContext<W>> Waits<C> for ByTask<Notified<W>>
 
     ghost cancels_reach = { λ f c d p. p.1 };
 
-    ghost covers = { λ f c g d p. peers_cover C.number C.work C.reaches C.watcher C.reaches_itself C.same_number (λ x. W.lists (C.shared x)) C.watches_peers c d g.task p.1 p.2 (W.lists_part (C.shared d) (C.number c) (notified_listed C.number C.work (λ x. W.part (C.shared x)) f.future.ticket c g.future.ticket d p.0.0)) };
+    ghost covers = { λ f c g d p. peers_cover C.number C.work C.reaches C.watcher C.reaches_itself C.same_number (λ x. W.names (C.shared x)) C.watches_peers c d g.task p.1 p.2 (W.names_part (C.shared d) (C.number c) (named_in (W.part (C.shared d)).line g.future.ticket (C.number c) (notified_stands C.number C.work (λ x. W.part (C.shared x)) f.future.ticket c g.future.ticket d p.0.0))) };
 }
 
 // It needs the tasks that replace the value.
@@ -64,7 +64,7 @@ impl<T: Drop, W: Lists<Watch<T>>, C: SharedWaitContext<W>> Waits<C> for ByTask<C
 
     ghost cancels_reach = { λ f c d p. p.1 };
 
-    ghost covers = { λ f c g d p. peers_cover C.number C.work C.reaches C.watcher C.reaches_itself C.same_number (λ x. W.lists (C.shared x)) C.watches_peers c d g.task p.1 p.2 (W.lists_part (C.shared d) (C.number c) (changed_listed C.number C.work (λ x. W.part (C.shared x)) f.future.seen f.future.ticket c g.future.ticket d p.0.0)) };
+    ghost covers = { λ f c g d p. peers_cover C.number C.work C.reaches C.watcher C.reaches_itself C.same_number (λ x. W.names (C.shared x)) C.watches_peers c d g.task p.1 p.2 (W.names_part (C.shared d) (C.number c) (named_in (W.part (C.shared d)).line g.future.ticket (C.number c) (changed_stands C.number C.work (λ x. W.part (C.shared x)) f.future.seen f.future.ticket c g.future.ticket d p.0.0))) };
 }
 
 // It needs the task that sends.
@@ -76,7 +76,7 @@ impl<T: Drop, W: Lists<Oneshot<T>>, C: SharedWaitContext<W>> Waits<C>
 
     ghost cancels_reach = { λ f c d p. p.1 };
 
-    ghost covers = { λ f c g d p. peers_cover C.number C.work C.reaches C.watcher C.reaches_itself C.same_number (λ x. W.lists (C.shared x)) C.watches_peers c d g.task p.1 p.2 (W.lists_part (C.shared d) (C.number c) (delivery_listed C.number C.work (λ x. W.part (C.shared x)) c d p.0.0)) };
+    ghost covers = { λ f c g d p. peers_cover C.number C.work C.reaches C.watcher C.reaches_itself C.same_number (λ x. W.names (C.shared x)) C.watches_peers c d g.task p.1 p.2 (W.names_part (C.shared d) (C.number c) (named_in (W.part (C.shared d)).line g.future.ticket (C.number c) (delivery_stands C.number C.work (λ x. W.part (C.shared x)) f.future.ticket c g.future.ticket d p.0.0))) };
 }
 
 // It needs the tasks that open sessions, and its sleep.
@@ -87,5 +87,5 @@ impl<W: Lists<Leases>, C: SharedWaitContext<W>> Waits<C> for ByTask<Keeper<W>> {
 
     ghost cancels_reach = { λ f c d p. p.1 };
 
-    ghost covers = { λ f c g d p. keepers_cover (frame_of C.number C.work C.reaches C.watcher C.reaches_itself C.reaches_on) (λ x. W.part (C.shared x)) C.sleeps C.nanos (λ x. W.lists (C.shared x)) C.same_number C.watches_sleeps C.watches_peers (λ x t. W.lists_part (C.shared x) t) c g.task p.2 d p.1 f.future.phase g.future.phase p.0 };
+    ghost covers = { λ f c g d p. keepers_cover (frame_of C.number C.work C.reaches C.watcher C.reaches_itself C.reaches_on) (λ x. W.part (C.shared x)) C.sleeps C.nanos (λ x. W.names (C.shared x)) C.same_number C.watches_sleeps C.watches_peers (λ x t. W.names_part (C.shared x) t) c g.task p.2 d p.1 f.future.phase g.future.phase p.0 };
 }

@@ -16,5 +16,5 @@ impl<M: Drop, W: Lists<Mailboxes<M>>, C: SharedWaitContext<W>> Waits<C> for ByTa
 
     ghost cancels_reach = { λ f c d p. p.1 };
 
-    ghost covers = { λ f c g d p. receives_cover (frame_of C.number C.work C.reaches C.watcher C.reaches_itself C.reaches_on) (λ x. W.part (C.shared x)) (λ x. W.lists (C.shared x)) C.same_number C.watches_peers (λ x t. W.lists_part (C.shared x) t) f.future.ticket f.future.actor c g.future.ticket d g.task p.2 p.0 };
+    ghost covers = { λ f c g d p. receives_cover (frame_of C.number C.work C.reaches C.watcher C.reaches_itself C.reaches_on) (λ x. W.part (C.shared x)) (λ x. W.names (C.shared x)) C.same_number C.watches_peers (λ x t. W.names_part (C.shared x) t) f.future.ticket f.future.actor c g.future.ticket d g.task p.1 p.2 p.0 };
 }

@@ -15,5 +15,5 @@ impl<W: Lists<Buckets>, C: SharedWaitContext<W>> Waits<C> for ByTask<Take<W>> {
 
     ghost cancels_reach = { λ f c d p. p.1 };
 
-    ghost covers = { λ f c g d p. takes_cover (frame_of C.number C.work C.reaches C.watcher C.reaches_itself C.reaches_on) (λ x. W.part (C.shared x)) C.sleeps C.nanos (λ x. W.lists (C.shared x)) C.same_number C.watches_sleeps C.watches_peers (λ x t. W.lists_part (C.shared x) t) c g.task p.2 d p.1 f.future.stage g.future.stage f.future.bucket f.future.n p.0 };
+    ghost covers = { λ f c g d p. takes_cover (frame_of C.number C.work C.reaches C.watcher C.reaches_itself C.reaches_on) (λ x. W.part (C.shared x)) C.sleeps C.nanos (λ x. W.names (C.shared x)) C.same_number C.watches_sleeps C.watches_peers (λ x t. W.names_part (C.shared x) t) c g.task p.2 d p.1 f.future.stage g.future.stage f.future.bucket f.future.n p.0 };
 }

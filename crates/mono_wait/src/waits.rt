@@ -37,7 +37,7 @@ pub trait RemoteWaitContext<U: Unpark>: WaitContext + RemoteContext<U> {
 
 /// A context with a shared value that exposes which tasks wait for other tasks: those that the value lists.
 pub trait SharedWaitContext<W: SharedState>: WaitContext + SharedContext<W> {
-    ghost watches_peers: { (c : Self) (u : ℕ) → Self.watcher c (of_peers u) ≡ peers_watcher (W.lists (Self.shared c) u) (Self.work c) u };
+    ghost watches_peers: { (c : Self) (u : ℕ) → Self.watcher c (of_peers u) ≡ peers_watcher (W.names (Self.shared c) u) (Self.work c) u };
 }
 
 /// A future that exposes the sources for which it waits.

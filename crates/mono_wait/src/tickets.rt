@@ -1,0 +1,60 @@
+// The places of futures that wait in a line of a shared value: each waits at its ticket.
+ghost use Rattle.std.specs.Prelude.{[], ◌∷◌, zero, suc};
+ghost use Rattle.mono_sync.specs.Mpsc as channel;
+ghost use Rattle.mono_sync.specs.Semaphores as semaphore;
+ghost use Rattle.mono_sync.specs.Notices as notice;
+ghost use Rattle.mono_sync.specs.Watches as watch;
+ghost use Rattle.mono_sync.specs.Oneshot as oneshot;
+ghost use Rattle.mono_wait.specs.WaitPlaces.{AtTicket, at_ticket};
+ghost use Rattle.mono_wait.specs.ListedTasks.{stands_at, send_stands, recv_stands, acquire_stands, notified_stands, changed_stands, delivery_stands};
+
+use crate::by_task::ByTask;
+use crate::placed::WaitsIn;
+use crate::waits::SharedWaitContext;
+use mono_sync::mpsc::{Channel, Recv, Send};
+use mono_sync::oneshot::{self, Oneshot};
+use mono_sync::watch::{Changed, Watch};
+use mono_sync::{Acquire, Lists, Notified, Notify, Semaphore};
+
+// It waits at its ticket among the senders.
+impl<T: Drop, W: Lists<Channel<T>>, C: SharedWaitContext<W>> WaitsIn<W, C> for ByTask<Send<W, T>> {
+    ghost waits_in = { λ f. AtTicket (λ w. channel.listed_by (W.part w)) W.lists (zero ∷ []) f.future.ticket };
+
+    ghost listed = { λ f c g d q. at_ticket (λ w. channel.listed_by (W.part w)) W.lists (C.shared d) (zero ∷ []) g.future.ticket (C.number c) (C.number d) (C.same_number c d q.1) (λ k is. stands_at (W.part (C.shared d)).senders g.future.ticket (C.number c) (send_stands (λ x. W.part (C.shared x)) C.number C.work f.future.message f.future.ticket c g.future.message g.future.ticket d q.0.0) k is) };
+}
+
+// It waits at its ticket among the receivers.
+impl<T: Drop, W: Lists<Channel<T>>, C: SharedWaitContext<W>> WaitsIn<W, C> for ByTask<Recv<W, T>> {
+    ghost waits_in = { λ f. AtTicket (λ w. channel.listed_by (W.part w)) W.lists (suc zero ∷ []) f.future.ticket };
+
+    ghost listed = { λ f c g d q. at_ticket (λ w. channel.listed_by (W.part w)) W.lists (C.shared d) (suc zero ∷ []) g.future.ticket (C.number c) (C.number d) (C.same_number c d q.1) (λ k is. stands_at (W.part (C.shared d)).receivers g.future.ticket (C.number c) (recv_stands (λ x. W.part (C.shared x)) C.number C.work f.future.ticket c g.future.ticket d q.0.0) k is) };
+}
+
+// It waits at its ticket.
+impl<W: Lists<Semaphore>, C: SharedWaitContext<W>> WaitsIn<W, C> for ByTask<Acquire<W>> {
+    ghost waits_in = { λ f. AtTicket (λ w. semaphore.listed_by (W.part w)) W.lists [] f.future.ticket };
+
+    ghost listed = { λ f c g d q. at_ticket (λ w. semaphore.listed_by (W.part w)) W.lists (C.shared d) [] g.future.ticket (C.number c) (C.number d) (C.same_number c d q.1) (λ k is. stands_at (W.part (C.shared d)).line g.future.ticket (C.number c) (acquire_stands C.number C.work (λ x. W.part (C.shared x)) f.future.ticket c g.future.ticket d q.0.0) k is) };
+}
+
+// It waits at its ticket.
+impl<W: Lists<Notify>, C: SharedWaitContext<W>> WaitsIn<W, C> for ByTask<Notified<W>> {
+    ghost waits_in = { λ f. AtTicket (λ w. notice.listed_by (W.part w)) W.lists [] f.future.ticket };
+
+    ghost listed = { λ f c g d q. at_ticket (λ w. notice.listed_by (W.part w)) W.lists (C.shared d) [] g.future.ticket (C.number c) (C.number d) (C.same_number c d q.1) (λ k is. stands_at (W.part (C.shared d)).line g.future.ticket (C.number c) (notified_stands C.number C.work (λ x. W.part (C.shared x)) f.future.ticket c g.future.ticket d q.0.0) k is) };
+}
+
+// It waits at its ticket.
+impl<T: Drop, W: Lists<Watch<T>>, C: SharedWaitContext<W>> WaitsIn<W, C> for ByTask<Changed<W, T>> {
+    ghost waits_in = { λ f. AtTicket (λ w. watch.listed_by (W.part w)) W.lists [] f.future.ticket };
+
+    ghost listed = { λ f c g d q. at_ticket (λ w. watch.listed_by (W.part w)) W.lists (C.shared d) [] g.future.ticket (C.number c) (C.number d) (C.same_number c d q.1) (λ k is. stands_at (W.part (C.shared d)).line g.future.ticket (C.number c) (changed_stands C.number C.work (λ x. W.part (C.shared x)) f.future.seen f.future.ticket c g.future.ticket d q.0.0) k is) };
+}
+
+// It waits at its ticket.
+impl<T: Drop, W: Lists<Oneshot<T>>, C: SharedWaitContext<W>> WaitsIn<W, C>
+    for ByTask<oneshot::Recv<W, T>> {
+    ghost waits_in = { λ f. AtTicket (λ w. oneshot.listed_by (W.part w)) W.lists [] f.future.ticket };
+
+    ghost listed = { λ f c g d q. at_ticket (λ w. oneshot.listed_by (W.part w)) W.lists (C.shared d) [] g.future.ticket (C.number c) (C.number d) (C.same_number c d q.1) (λ k is. stands_at (W.part (C.shared d)).line g.future.ticket (C.number c) (delivery_stands C.number C.work (λ x. W.part (C.shared x)) f.future.ticket c g.future.ticket d q.0.0) k is) };
+}
