@@ -1,1 +1,5 @@
+pub mod Beginnings
 pub mod DeliveryLemmas
+pub mod Interleaving
+pub mod PollLemmas
+pub mod Weights

@@ -1,5 +1,5 @@
 -- What a caller sees of the two ends of a channel.
-use Rattle.std.specs.Prelude.{◌≡◌, true, List}
+use Rattle.std.specs.Prelude.{◌≡◌, ℕ, true, List}
 use Rattle.crossbeam_queue.specs.Passes.{Pass, view}
 use Rattle.mono_channel.specs.declared.rule.Hand.{Hand}
 
@@ -20,6 +20,10 @@ module _ {T : Type 0} where
   abbrev pub settled_by : Ends T → List (List T)
   settled_by r = (view r).settled
 
+  -- its shares of the channel
+  abbrev pub shares_of : Ends T → ℕ
+  shares_of e = (view e).shares
+
   -- both are ends of one channel
   abbrev pub IsPair : Ends T → Ends T → Type 0
   IsPair a b = a.table_id ≡ b.table_id
@@ -31,3 +35,7 @@ module _ {T : Type 0} where
   -- it may receive
   abbrev pub Receives : Ends T → Type 0
   Receives r = (view r).receives ≡ true
+
+  -- for how many messages the channel has places
+  abbrev pub bound_of : Ends T → ℕ
+  bound_of e = e.table_id.slots

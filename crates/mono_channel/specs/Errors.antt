@@ -1,5 +1,5 @@
 -- The message that comes back.
-use Rattle.std.specs.Prelude.{Bool, true, false}
+use Rattle.std.specs.Prelude.{⊤, Bool, true, false, Result, Ok, Err}
 use Rattle.mono_channel.specs.declared.errors.TrySendError.{TrySendError}
 use Rattle.mono_channel.specs.declared.errors.TrySendError.TheVariants.{Full, Closed}
 use Rattle.mono_channel.specs.declared.errors.SendError.{SendError}
@@ -20,3 +20,12 @@ module _ {T : Type 0} where
   abbrev pub unsent : SendError T → T
   unsent (send.Closed x) = x
   unsent (send.Memory x) = x
+
+  -- what holds if each place was taken
+  abbrev pub IfFull : TrySendError T → Type 0 → Type 0
+  IfFull (Full x) P = P
+  IfFull (Closed x) P = ⊤
+
+  abbrev pub OnFull : {A : Type 0} → Result A (TrySendError T) → Type 0 → Type 0
+  OnFull (Ok a) P = ⊤
+  OnFull (Err e) P = IfFull e P

@@ -1,6 +1,10 @@
+pub mod Beginnings
 pub mod Delivery
 pub mod Ends
 pub mod Errors
+pub mod Gates
 pub mod Messages
 pub mod Polls
+pub mod Queues
 pub mod Seats
+pub mod Weights

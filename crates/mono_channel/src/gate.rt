@@ -1,14 +1,18 @@
 // What the ends of a channel share under its lock: who waits, and whether the channel is closed.
-ghost use Rattle.std.specs.Prelude.{◌≡◌, ◌≢◌, ◌+◌, ◌-◌, ◌<◌, ◌≤◌, ◌^◌, true, false, [], ◌++◌, ◌∷◌, Some, None, Err, IfOk, IfErr, OnSome, MatchResult, MatchOption};
-ghost use Rattle.crossbeam_queue.specs.Passes.{view, IsPassOf, IsSamePass};
+ghost use Rattle.std.specs.Prelude.{◌≡◌, ◌≢◌, ◌+◌, ◌-◌, ◌<◌, ◌≤◌, ◌^◌, ◌⊎◌, true, false, [], ◌++◌, ◌∷◌, Some, None, Err, IfOk, IfErr, OnSome, MatchResult, MatchOption};
+ghost use Rattle.crossbeam_queue.specs.Passes.{view, IsPassOf, IsSamePass, ruled_capacity};
+ghost use Rattle.crossbeam_queue.specs.Fifo.{Held};
+ghost use Rattle.mono_channel.specs.Queues.{IsQueued};
 ghost use Rattle.mono_channel.specs.Delivery.{Arrived, hand, sender};
-ghost use Rattle.mono_channel.specs.Errors.{message_of, is_shut};
+ghost use Rattle.mono_channel.specs.Errors.{message_of, is_shut, OnFull};
+ghost use Rattle.mono_channel.specs.Gates.{is_over};
 ghost use Rattle.mono_channel.specs.Seats.{Seats};
 ghost use Rattle.mono_channel.specs.declared.errors.TryRecvError.TheVariants.{Empty, Disconnected};
 
 use crate::errors::{TryRecvError, TrySendError};
 use crate::rule::{End, Queue, Received, Sent};
-use mono_inbox::{RemoteWaker, Unpark};
+use crate::waiters::Waiter;
+use mono_inbox::Unpark;
 use mono_model::Host;
 use std::alloc::{AllocError, Global};
 use std::mem;
@@ -17,13 +21,14 @@ use std::mem;
 #[derive(Drop)]
 pub(crate) struct Gate<U: Unpark> {
     alloc: Global,
-    is_closed: bool,
+    // whether the receiver closed the channel
+    is_stopped: bool,
     // how many senders have not been closed
     senders: u64,
-    // the waker of the task that waits to receive
-    receiver: Option<RemoteWaker<U>>,
-    // the wakers of the tasks that wait to send
-    waiting: Vec<RemoteWaker<U>>,
+    // who waits to receive
+    receiver: Option<Waiter<U>>,
+    // those who wait to send, in the order in which they began to
+    waiting: Vec<Waiter<U>>,
     // how often those who wait to send were let go
     round: u64,
 }
@@ -31,12 +36,12 @@ pub(crate) struct Gate<U: Unpark> {
 impl<U: Unpark> Gate<U> {
     /// Returns the gate of a new channel, which has one sender.
     pub(crate) fn new(alloc: Global) -> Gate<U>
-        ensures open { (result.is_closed ≡ false) × (result.senders ≡ 1) }
+        ensures open { (result.is_stopped ≡ false) × (result.senders ≡ 1) }
         ensures none { (result.receiver ≡ None) × (result.waiting.items ≡ []) }
     {
         Gate {
             alloc,
-            is_closed: false,
+            is_stopped: false,
             senders: 1,
             receiver: None,
             waiting: Vec::new(alloc),
@@ -47,92 +52,94 @@ impl<U: Unpark> Gate<U> {
     /// Counts a further sender.
     pub(crate) fn join(&mut self)
         ensures counted { self.old.senders < 2 ^ 63 → self.new.senders ≡ self.old.senders + 1 }
-        ensures same { (self.new.is_closed ≡ self.old.is_closed) × (self.new.receiver ≡ self.old.receiver) × (self.new.waiting ≡ self.old.waiting) }
+        ensures same { (self.new.is_stopped ≡ self.old.is_stopped) × (self.new.receiver ≡ self.old.receiver) × (self.new.waiting ≡ self.old.waiting) }
     {
         self.senders = self.senders.saturating_add(1);
     }
 
-    /// Counts a sender out, and closes the channel if it was the last. Returns the receiver's waker, which is to be woken.
-    pub(crate) fn leave(&mut self) -> Option<RemoteWaker<U>>
-        ensures last { self.old.senders ≤ 1 → (self.new.is_closed ≡ true) × (result ≡ self.old.receiver) }
-        ensures others { 1 < self.old.senders → (self.new.is_closed ≡ self.old.is_closed) × (self.new.receiver ≡ self.old.receiver) × (result ≡ None) }
+    /// Counts a sender out, and closes the channel if it was the last: then returns who waits to receive, who is to be woken.
+    pub(crate) fn leave(&mut self) -> Option<Waiter<U>>
+        ensures last { self.old.senders ≤ 1 → result ≡ self.old.receiver }
+        ensures others { 1 < self.old.senders → (self.new.receiver ≡ self.old.receiver) × (result ≡ None) }
         ensures counted { self.new.senders ≡ self.old.senders - 1 }
+        ensures same { (self.new.is_stopped ≡ self.old.is_stopped) × (self.new.waiting ≡ self.old.waiting) }
     {
         self.senders = self.senders.saturating_sub(1);
         if self.senders > 0 {
             return None;
         }
-        self.is_closed = true;
         mem::replace(&mut self.receiver, None)
     }
 
-    /// Closes the channel. Returns the wakers of the tasks that wait to send.
-    pub(crate) fn close(&mut self) -> Vec<RemoteWaker<U>>
-        ensures closed { self.new.is_closed ≡ true }
+    /// Closes the channel. Returns those who wait to send.
+    pub(crate) fn close(&mut self) -> Vec<Waiter<U>>
+        ensures closed { self.new.is_stopped ≡ true }
         ensures woken { result.items ≡ self.old.waiting.items }
+        ensures same { (self.new.senders ≡ self.old.senders) × (self.new.receiver ≡ self.old.receiver) }
     {
-        self.is_closed = true;
+        self.is_stopped = true;
         self.let_go()
     }
 
-    /// Returns whether the channel is closed.
+    /// Returns whether the channel is closed: by its receiver, or since each sender is.
     pub(crate) fn is_closed(&self) -> bool
-        ensures { result ≡ self.now.is_closed }
+        ensures { result ≡ is_over self.now }
     {
-        self.is_closed
+        self.is_stopped || self.senders == 0
     }
 
-    /// Empties the list of the tasks that wait to send. Returns their wakers, which are to be woken.
-    fn let_go(&mut self) -> Vec<RemoteWaker<U>>
+    /// Empties the list of those who wait to send. Returns them in order; they are to be woken.
+    fn let_go(&mut self) -> Vec<Waiter<U>>
         ensures woken { result.items ≡ self.old.waiting.items }
         ensures none { self.new.waiting.items ≡ [] }
-        ensures same { (self.new.is_closed ≡ self.old.is_closed) × (self.new.receiver ≡ self.old.receiver) }
+        ensures same { (self.new.is_stopped ≡ self.old.is_stopped) × (self.new.senders ≡ self.old.senders) × (self.new.receiver ≡ self.old.receiver) }
         ensures round { self.new.round ≢ self.old.round }
     {
         self.round = self.round.wrapping_add(1);
         mem::replace(&mut self.waiting, Vec::new(self.alloc))
     }
 
-    /// Keeps the waker of a task that waits to send. It takes the place of the sender's earlier one, at `seat`, if that was
-    /// not let go. Returns the seat. If the allocation fails the gate stays as it was.
+    /// Keeps one who waits to send. It takes the place of the sender's earlier one, at `seat`, if that was not let go.
+    /// Returns the seat. If the allocation fails the gate stays as it was.
     pub(crate) fn wait_to_send(
         &mut self,
-        waker: RemoteWaker<U>,
+        waiter: Waiter<U>,
         seat: Option<(u64, usize)>,
     ) -> Result<(u64, usize), AllocError>
-        ensures kept { IfOk result (λ s. Seats self.old.waiting.items seat self.old.round waker s self.new.waiting.items) }
+        ensures kept { IfOk result (λ s. Seats self.old.waiting.items seat self.old.round waiter s self.new.waiting.items) }
         ensures refused { IfErr result (λ e. self.new.waiting.items ≡ self.old.waiting.items) }
-        ensures same { (self.new.receiver ≡ self.old.receiver) × (self.new.is_closed ≡ self.old.is_closed) × (self.new.round ≡ self.old.round) }
+        ensures same { (self.new.receiver ≡ self.old.receiver) × (self.new.is_stopped ≡ self.old.is_stopped) × (self.new.senders ≡ self.old.senders) × (self.new.round ≡ self.old.round) }
     {
         if let Some((round, at)) = seat {
             if round == self.round && at < self.waiting.len() {
-                self.waiting[at] = waker;
+                self.waiting[at] = waiter;
                 return Ok((round, at));
             }
         }
         let at = self.waiting.len();
-        self.waiting.push(waker)?;
+        self.waiting.push(waiter)?;
         Ok((self.round, at))
     }
 }
 
-/// Queues a message, and returns the waker of the task that waits to receive: it is to be woken now. The waker leaves the
-/// gate only if the message is queued.
+/// Queues a message, and returns who waits to receive, who is to be woken now. The waiter leaves the gate only if the
+/// message is queued.
 pub(crate) fn put<T: Drop, U: Unpark, R: Host>(
     rt: &R,
     gate: &mut Gate<U>,
     queue: &Queue<T>,
     end: &mut End<T>,
     message: T,
-) -> Result<Option<RemoteWaker<U>>, TrySendError<T>>
+) -> Result<Option<Waiter<U>>, TrySendError<T>>
     requires queue { IsPassOf queue.now end.old }
     requires sends { (view end.old).sends ≡ true }
     ensures queue { IsSamePass end.old end.new }
-    ensures put { MatchResult result (λ first. (view end.new ≡ sender ((view end.old).sent ++ message ∷ [])) × (first ≡ gate.old.receiver) × (gate.new.receiver ≡ None)) (λ e. (message_of e ≡ message) × (view end.new ≡ view end.old) × (gate.new ≡ gate.old)) }
-    ensures closed { MatchResult result (λ first. gate.old.is_closed ≡ false) (λ e. is_shut e ≡ gate.old.is_closed) }
-    ensures same { (gate.new.is_closed ≡ gate.old.is_closed) × (gate.new.waiting ≡ gate.old.waiting) }
+    ensures put { MatchResult result (λ first. (view end.new ≡ sender (view end.old).shares ((view end.old).sent ++ message ∷ [])) × (first ≡ gate.old.receiver) × (gate.new.receiver ≡ None)) (λ e. (message_of e ≡ message) × (view end.new ≡ view end.old) × (gate.new ≡ gate.old)) }
+    ensures closed { MatchResult result (λ first. is_over gate.old ≡ false) (λ e. is_shut e ≡ is_over gate.old) }
+    ensures full { OnFull result (Held (ruled_capacity queue.now) (IsQueued (view end.old).sent)) }
+    ensures same { (is_over gate.new ≡ is_over gate.old) × (gate.new.waiting ≡ gate.old.waiting) }
 {
-    if gate.is_closed {
+    if gate.is_closed() {
         return Err(TrySendError::Closed(message));
     }
     match queue.push_as::<Sent, R>(rt, end, message) {
@@ -141,7 +148,7 @@ pub(crate) fn put<T: Drop, U: Unpark, R: Host>(
     }
 }
 
-/// Takes the first message, and returns it with the wakers of the tasks that wait to send: they are to be woken now.
+/// Takes the first message, and returns it with those who wait to send, who are to be woken now.
 ///
 /// If none is queued, all that settled senders sent has been received.
 pub(crate) fn take<T: Drop, U: Unpark, R: Host>(
@@ -149,13 +156,13 @@ pub(crate) fn take<T: Drop, U: Unpark, R: Host>(
     gate: &mut Gate<U>,
     queue: &Queue<T>,
     end: &mut End<T>,
-) -> Option<(T, Vec<RemoteWaker<U>>)>
+) -> Option<(T, Vec<Waiter<U>>)>
     requires queue { IsPassOf queue.now end.old }
     requires receives { (view end.old).receives ≡ true }
     ensures queue { IsSamePass end.old end.new }
-    ensures taken { MatchOption result ((view end.new ≡ view end.old) × (gate.new ≡ gate.old) × Arrived (view end.old).received (view end.old).settled) (λ r. (view end.new ≡ hand ((view end.old).received ++ r.0 ∷ []) (view end.old).settled) × (r.1.items ≡ gate.old.waiting.items)) }
+    ensures taken { MatchOption result ((view end.new ≡ view end.old) × (gate.new ≡ gate.old) × Arrived (view end.old).shares (view end.old).received (view end.old).settled) (λ r. (view end.new ≡ hand (view end.old).shares ((view end.old).received ++ r.0 ∷ []) (view end.old).settled) × (r.1.items ≡ gate.old.waiting.items)) }
     ensures none { OnSome result (gate.new.waiting.items ≡ []) }
-    ensures same { (gate.new.is_closed ≡ gate.old.is_closed) × (gate.new.receiver ≡ gate.old.receiver) }
+    ensures same { (gate.new.is_stopped ≡ gate.old.is_stopped) × (gate.new.senders ≡ gate.old.senders) × (gate.new.receiver ≡ gate.old.receiver) }
 {
     match queue.pop_as::<Received, R>(rt, end) {
         Some(message) => Some((message, gate.let_go())),
@@ -163,30 +170,29 @@ pub(crate) fn take<T: Drop, U: Unpark, R: Host>(
     }
 }
 
-/// Takes the first message as `take` does. If none is queued and the channel is open, keeps the waker of the task that waits
-/// to receive.
+/// Takes the first message as `take` does. If none is queued and the channel is open, keeps who waits to receive.
 pub(crate) fn take_or_wait<T: Drop, U: Unpark, R: Host>(
     rt: &R,
     gate: &mut Gate<U>,
     queue: &Queue<T>,
     end: &mut End<T>,
-    waker: RemoteWaker<U>,
-) -> Result<(T, Vec<RemoteWaker<U>>), TryRecvError>
+    waiter: Waiter<U>,
+) -> Result<(T, Vec<Waiter<U>>), TryRecvError>
     requires queue { IsPassOf queue.now end.old }
     requires receives { (view end.old).receives ≡ true }
     ensures queue { IsSamePass end.old end.new }
-    ensures taken { MatchResult result (λ r. (view end.new ≡ hand ((view end.old).received ++ r.0 ∷ []) (view end.old).settled) × (r.1.items ≡ gate.old.waiting.items)) (λ e. (view end.new ≡ view end.old) × Arrived (view end.old).received (view end.old).settled) }
-    ensures registered { result ≡ Err Empty → (gate.new.receiver ≡ Some waker) × (gate.old.is_closed ≡ false) }
+    ensures taken { MatchResult result (λ r. (view end.new ≡ hand (view end.old).shares ((view end.old).received ++ r.0 ∷ []) (view end.old).settled) × (r.1.items ≡ gate.old.waiting.items)) (λ e. (view end.new ≡ view end.old) × Arrived (view end.old).shares (view end.old).received (view end.old).settled) }
+    ensures registered { result ≡ Err Empty → (gate.new.receiver ≡ Some waiter) × (is_over gate.old ≡ false) }
     ensures waiting { MatchResult result (λ r. gate.new.waiting.items ≡ []) (λ e. gate.new.waiting.items ≡ gate.old.waiting.items) }
-    ensures closed { result ≡ Err Disconnected → gate.old.is_closed ≡ true }
+    ensures closed { result ≡ Err Disconnected → (gate.old.is_stopped ≡ true) ⊎ (gate.old.senders ≡ 0) }
 {
     match take(rt, gate, queue, end) {
         Some(taken) => Ok(taken),
         None => {
-            if gate.is_closed {
+            if gate.is_closed() {
                 return Err(TryRecvError::Disconnected);
             }
-            gate.receiver = Some(waker);
+            gate.receiver = Some(waiter);
             Err(TryRecvError::Empty)
         }
     }

@@ -4,13 +4,17 @@
 mod ends;
 mod errors;
 mod gate;
+mod guards;
+pub mod laws;
 mod messages;
 mod receiver;
 mod rule;
 mod sender;
+mod waiters;
 
 pub use ends::{Receiver, Sender};
 pub use errors::{SendError, TryRecvError, TrySendError};
+pub use guards::{Closing, End};
 pub use messages::{Recv, Send};
 pub use rule::{Delivery, Hand};
 pub use sender::channel;

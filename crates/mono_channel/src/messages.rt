@@ -1,12 +1,14 @@
-// Futures that send and receive, over an end that each hands back.
-ghost use Rattle.std.specs.Prelude.{◌≡◌, true, is_none};
+// Futures that send and receive, over an end that each borrows.
+ghost use Rattle.std.specs.Prelude.{◌≡◌, true, false, is_none};
 ghost use Rattle.std.specs.declared.option.Option.TheVariants.{None, Some};
 ghost use Rattle.mono_model.specs.Poll.{OnPending};
 ghost use Rattle.mono_channel.specs.Polls.{PollsToReceive, PollsToSend};
-ghost use Rattle.mono_channel.specs.Messages.{RecvPolls, RecvGives, SendPolls, SendGives};
+ghost use Rattle.mono_channel.specs.Messages.{ReceiveGives, SendGives};
+ghost use Rattle.mono_channel.specs.Queues.{WasFull};
 
 use crate::ends::{Receiver, Sender};
 use crate::errors::{SendError, TryRecvError, TrySendError};
+use crate::waiters::Waiter;
 use mono_blocking::RemoteContext;
 use mono_inbox::Unpark;
 use mono_model::{Host, Poll};
@@ -14,35 +16,43 @@ use mono_task::TaskFuture;
 use std::alloc::{AllocError, Global};
 use std::mem;
 
-/// A future that receives the next message. Its answer hands the receiver back.
+/// A future that receives the next message, over a receiver that it borrows (`Receiver::recv`).
 ///
-/// Given up, it drops the receiver. The receiver's waker then stays until the next message or close.
+/// It is never spent: a poll after an answer receives the message after it. Giving it up loses no message and leaves the
+/// receiver as it is; at most its task is woken once more.
 #[derive(Drop)]
-pub struct Recv<T: Drop, U: Unpark> {
-    // the receiver, until the future has answered
-    pub(crate) receiver: Option<Receiver<T, U>>,
+pub struct Recv<'a, T: Drop, U: Unpark> {
+    pub(crate) receiver: &'a mut Receiver<T, U>,
     // the task that waits, after a pending poll
     pub(crate) task: u64,
 }
 
-/// A future that sends a message, and waits while each place is taken. Its answer hands the sender back.
+/// A future that sends a message, over a sender that it borrows (`Sender::send`). It waits while each place is taken.
 ///
-/// Given up, it drops the sender, which closes nothing, and the message.
+/// Giving it up before it has answered sends nothing and leaves the sender as it is. It drops the message, unless
+/// `into_message` takes it.
 #[derive(Drop)]
-pub struct Send<T: Drop, U: Unpark> {
-    // the sender and the message, until the future has answered
-    pub(crate) unsent: Option<(Sender<T, U>, T)>,
+pub struct Send<'a, T: Drop, U: Unpark> {
+    pub(crate) sender: &'a mut Sender<T, U>,
+    // the message, until the future has answered
+    pub(crate) message: Option<T>,
     // the task that waits, after a pending poll
     pub(crate) task: u64,
 }
 
 impl<T: Drop, U: Unpark> Receiver<T, U> {
-    /// Returns a future that receives the next message, and then hands this receiver back.
-    pub fn recv(self) -> Recv<T, U>
-        ensures { result.receiver ≡ Some self }
+    /// Returns a future that receives the next message, on the receiver itself (`receiver`, `same_reference`).
+    ///
+    /// ```rust
+    /// // test_channel/src/futures.rt
+    /// receiver.recv().poll(rt, alloc, cx) == Poll::Ready(Ok(Some(10)))
+    /// ```
+    pub fn recv(&mut self) -> Recv<'_, T, U>
+        ensures same_reference { result.receiver.ghost_name ≡ self.entry.ghost_name }
+        ensures receiver { result.receiver.now ≡ self.old }
     {
         Recv {
-            receiver: Some(self),
+            receiver: self,
             task: 0,
         }
     }
@@ -63,24 +73,28 @@ impl<T: Drop, U: Unpark> Receiver<T, U> {
             Err(TryRecvError::Empty) => {}
         }
         match cx.remote_waker() {
-            Ok(waker) => self.take_or_pend(rt, waker),
+            Ok(waker) => self.take_or_pend(rt, Waiter::Task(waker)),
             Err(failed) => Poll::Ready(Err(failed)),
         }
     }
 }
 
 impl<T: Drop, U: Unpark> Sender<T, U> {
-    /// Returns a future that sends the message, and then hands this sender back.
-    pub fn send(self, message: T) -> Send<T, U>
-        ensures { result.unsent ≡ Some (self, message) }
+    /// Returns a future that sends the message, on the sender itself (`sender`, `same_reference`).
+    pub fn send(&mut self, message: T) -> Send<'_, T, U>
+        ensures same_reference { result.sender.ghost_name ≡ self.entry.ghost_name }
+        ensures sender { result.sender.now ≡ self.old }
+        ensures message { result.message ≡ Some message }
     {
         Send {
-            unsent: Some((self, message)),
+            sender: self,
+            message: Some(message),
             task: 0,
         }
     }
 
     // Sends the message, or keeps it and waits with the running task's waker.
+    #[tactic(auto, using(crate::proofs::PollLemmas::on_pending))]
     fn poll_in<C: RemoteContext<U>, R: Host>(
         &mut self,
         rt: &R,
@@ -90,6 +104,7 @@ impl<T: Drop, U: Unpark> Sender<T, U> {
     ) -> Poll<Result<(), SendError<T>>>
         requires { kept.old ≡ None }
         ensures polled { PollsToSend self.old (Some message) result self.new kept.new }
+        ensures full { OnPending result (WasFull self.old) }
         ensures handed { OnPending result (C.has_handed_out cx.new ≡ true) }
         ensures reached { C.reaches cx.old cx.new }
     {
@@ -99,27 +114,36 @@ impl<T: Drop, U: Unpark> Sender<T, U> {
             Err(TrySendError::Full(back)) => back,
         };
         match cx.remote_waker() {
-            Ok(waker) => self.send_or_pend(rt, waker, again, kept),
+            Ok(waker) => self.send_or_pend(rt, Waiter::Task(waker), again, kept),
             Err(_) => Poll::Ready(Err(SendError::Memory(again))),
         }
     }
 }
 
+impl<T: Drop, U: Unpark> Send<'_, T, U> {
+    /// Gives the future up and returns its message, which was not sent; none if the future has answered.
+    pub fn into_message(self) -> Option<T>
+        ensures { result ≡ self.entry.message }
+    {
+        self.message
+    }
+}
+
 /// The future answers the first message, or none once the channel was closed and no message is left. It fails if out of
-/// memory. The receiver comes with each answer. A pending poll has handed out a waker of the running task.
-impl<T: Drop, U: Unpark, C: RemoteContext<U>> TaskFuture<C> for Recv<T, U> {
-    type Output = (Receiver<T, U>, Result<Option<T>, AllocError>);
+/// memory. A pending poll has handed out a waker of the running task, and the channel keeps it.
+impl<T: Drop, U: Unpark, C: RemoteContext<U>> TaskFuture<C> for Recv<'_, T, U> {
+    type Output = Result<Option<T>, AllocError>;
 
-    ghost is_spent = { λ f. is_none f.receiver };
+    ghost is_spent = { λ f. false };
 
-    ghost polls = { λ f c r g d. RecvPolls f.receiver r g.receiver × C.reaches c d × OnPending r ((C.has_handed_out d ≡ true) × (g.task ≡ C.number c)) };
+    ghost polls = { λ f c r g d. PollsToReceive f.receiver.now r g.receiver.now × C.reaches c d × OnPending r ((C.has_handed_out d ≡ true) × (g.task ≡ C.number c)) };
 
-    ghost gives = { λ f. RecvGives f.receiver };
+    ghost gives = { λ f. ReceiveGives f.receiver.now };
 
     ghost cancels = { λ f c d. d ≡ c };
 
     fn spent(&self) -> bool {
-        self.receiver.is_none()
+        false
     }
 
     fn poll<R: Host>(
@@ -127,40 +151,29 @@ impl<T: Drop, U: Unpark, C: RemoteContext<U>> TaskFuture<C> for Recv<T, U> {
         rt: &R,
         _alloc: Global,
         cx: &mut C,
-    ) -> Poll<(Receiver<T, U>, Result<Option<T>, AllocError>)> {
-        let Some(taken) = mem::replace(&mut self.receiver, None) else {
-            unreachable!()
-        };
-        let mut receiver = taken;
-        match receiver.poll_in(rt, cx) {
-            Poll::Ready(answer) => Poll::Ready((receiver, answer)),
-            Poll::Pending => {
-                self.receiver = Some(receiver);
-                self.task = cx.me();
-                Poll::Pending
-            }
-        }
+    ) -> Poll<Result<Option<T>, AllocError>> {
+        self.task = cx.me();
+        self.receiver.poll_in(rt, cx)
     }
 
     fn cancel(self, _cx: &mut C) {}
 }
 
 /// The future answers once the message is queued. It fails if the channel or the sender was closed, or if out of memory;
-/// then the message comes back. The sender comes with each answer. A pending poll has handed out a waker of the running
-/// task.
-impl<T: Drop, U: Unpark, C: RemoteContext<U>> TaskFuture<C> for Send<T, U> {
-    type Output = (Sender<T, U>, Result<(), SendError<T>>);
+/// then the message comes back. A pending poll has handed out a waker of the running task, and the channel keeps it.
+impl<T: Drop, U: Unpark, C: RemoteContext<U>> TaskFuture<C> for Send<'_, T, U> {
+    type Output = Result<(), SendError<T>>;
 
-    ghost is_spent = { λ f. is_none f.unsent };
+    ghost is_spent = { λ f. is_none f.message };
 
-    ghost polls = { λ f c r g d. SendPolls f.unsent r g.unsent × C.reaches c d × OnPending r ((C.has_handed_out d ≡ true) × (g.task ≡ C.number c)) };
+    ghost polls = { λ f c r g d. PollsToSend f.sender.now f.message r g.sender.now g.message × C.reaches c d × OnPending r ((C.has_handed_out d ≡ true) × (g.task ≡ C.number c) × WasFull f.sender.now) };
 
-    ghost gives = { λ f. SendGives f.unsent };
+    ghost gives = { λ f. SendGives f.sender.now f.message };
 
     ghost cancels = { λ f c d. d ≡ c };
 
     fn spent(&self) -> bool {
-        self.unsent.is_none()
+        self.message.is_none()
     }
 
     fn poll<R: Host>(
@@ -168,21 +181,12 @@ impl<T: Drop, U: Unpark, C: RemoteContext<U>> TaskFuture<C> for Send<T, U> {
         rt: &R,
         _alloc: Global,
         cx: &mut C,
-    ) -> Poll<(Sender<T, U>, Result<(), SendError<T>>)> {
-        let Some((taken, message)) = mem::replace(&mut self.unsent, None) else {
+    ) -> Poll<Result<(), SendError<T>>> {
+        let Some(message) = mem::replace(&mut self.message, None) else {
             unreachable!()
         };
-        let mut sender = taken;
-        let mut kept = None;
-        match sender.poll_in(rt, cx, message, &mut kept) {
-            Poll::Ready(answer) => Poll::Ready((sender, answer)),
-            Poll::Pending => {
-                let Some(message) = kept else { unreachable!() };
-                self.unsent = Some((sender, message));
-                self.task = cx.me();
-                Poll::Pending
-            }
-        }
+        self.task = cx.me();
+        self.sender.poll_in(rt, cx, message, &mut self.message)
     }
 
     fn cancel(self, _cx: &mut C) {}

@@ -1,15 +1,20 @@
 // The end that receives.
-ghost use Rattle.std.specs.Prelude.{◌≡◌, true, [], ◌++◌, ◌∷◌};
+ghost use Rattle.std.specs.Prelude.{◌≡◌, ◌≤◌, ◌+◌, true, [], ◌++◌, ◌∷◌};
 ghost use Rattle.std.specs.Arc.{arc_value};
+ghost use Rattle.crossbeam_queue.specs.Fifo.{Held};
 ghost use Rattle.crossbeam_queue.specs.Passes.{view, IsPassOf};
-ghost use Rattle.mono_channel.specs.Ends.{sent_by, received_by, settled_by, IsPair};
+ghost use Rattle.mono_channel.specs.Delivery.{Arrived};
+ghost use Rattle.mono_channel.specs.Beginnings.{Begun};
+ghost use Rattle.mono_channel.specs.Ends.{sent_by, received_by, settled_by, shares_of, bound_of, IsPair};
 ghost use Rattle.mono_channel.specs.Polls.{TriesToReceive, PollsToReceive, first_of};
+ghost use Rattle.mono_model.specs.declared.poll.Poll.TheVariants.{Ready};
 
 use crate::ends::{Receiver, Sender, Shared};
 use crate::errors::TryRecvError;
 use crate::gate::{take, take_or_wait};
-use crate::rule::{End, Settles};
-use mono_inbox::{RemoteWaker, Unpark};
+use crate::rule::{End, Received, Settles};
+use crate::waiters::{Waiter, wake_all};
+use mono_inbox::{Parker, RemoteWaker, Unpark};
 use mono_model::{Host, Poll};
 use std::alloc::{AllocError, Global};
 use std::sync::Arc;
@@ -24,15 +29,26 @@ impl<T: Drop, U: Unpark> Receiver<T, U> {
         Receiver { shared, end }
     }
 
-    /// Takes a sender in, and remembers what it sent.
+    /// Takes a sender in, with its shares, and remembers what it sent. Close it first: one that is taken in open leaves the
+    /// channel open.
     pub fn settle(&mut self, sender: Sender<T, U>)
         requires { IsPair sender self.old }
         ensures settled { settled_by self.new ≡ settled_by self.old ++ sent_by sender ∷ [] }
+        ensures shares { shares_of self.new ≡ shares_of self.old + shares_of sender }
         ensures same { IsPair self.new self.old × (received_by self.new ≡ received_by self.old) }
     {
         self.shared
             .queue
             .absorb::<Settles>(&mut self.end, sender.end);
+    }
+
+    /// Shows that what was received is a beginning of what arrives: once the queued messages are received too, all that the
+    /// settled senders sent has arrived. It changes nothing.
+    pub fn learn(&mut self)
+        ensures begun { Begun (shares_of self.old) (received_by self.old) (settled_by self.old) }
+        ensures same { IsPair self.new self.old × (received_by self.new ≡ received_by self.old) × (settled_by self.new ≡ settled_by self.old) × (shares_of self.new ≡ shares_of self.old) }
+    {
+        self.shared.queue.learn_as::<Received>(&mut self.end);
     }
 
     /// Takes the first message at once, and then wakes the tasks that wait to send.
@@ -63,12 +79,78 @@ impl<T: Drop, U: Unpark> Receiver<T, U> {
             Err(TryRecvError::Empty) => {}
         }
         match waker.clone() {
-            Ok(waker) => self.take_or_pend(rt, waker),
+            Ok(waker) => self.take_or_pend(rt, Waiter::Task(waker)),
             Err(failed) => Poll::Ready(Err(failed)),
         }
     }
 
-    /// Closes the channel, and then wakes the tasks that wait to send. Messages that are queued can still be received.
+    /// Receives the next message, and parks this thread while none is queued: for a thread without a runtime.
+    ///
+    /// Returns none if no message is queued and the channel was closed. Fails only if out of memory.
+    #[tactic(auto, using(crate::proofs::PollLemmas::then_receives, crate::proofs::PollLemmas::finds_none_again))]
+    pub fn blocking_recv<R: Host>(&mut self, rt: &R, alloc: Global) -> Result<Option<T>, AllocError>
+        ensures { PollsToReceive self.old (Ready result) self.new }
+    {
+        match self.try_recv(rt) {
+            Ok(message) => return Ok(Some(message)),
+            Err(TryRecvError::Disconnected) => return Ok(None),
+            Err(TryRecvError::Empty) => {}
+        }
+        let parker = Parker::new(alloc)?;
+        for _ in rt.forever() {
+            match self.take_or_park(rt, &parker) {
+                Poll::Ready(answer) => return answer,
+                Poll::Pending => parker.park(rt),
+            }
+        }
+        unreachable!()
+    }
+
+    // Takes the first message, or lets the next message and the close of the channel end the parker's wait.
+    fn take_or_park<R: Host>(
+        &mut self,
+        rt: &R,
+        parker: &Parker,
+    ) -> Poll<Result<Option<T>, AllocError>>
+        ensures { PollsToReceive self.old result self.new }
+    {
+        match self.try_recv(rt) {
+            Ok(message) => return Poll::Ready(Ok(Some(message))),
+            Err(TryRecvError::Disconnected) => return Poll::Ready(Ok(None)),
+            Err(TryRecvError::Empty) => {}
+        }
+        match parker.handle() {
+            Ok(handle) => self.take_or_pend(rt, Waiter::Thread(handle)),
+            Err(failed) => Poll::Ready(Err(failed)),
+        }
+    }
+
+    /// Returns how many messages were queued at one moment of the call. Once they are received too, all that the settled
+    /// senders sent has arrived.
+    pub fn len<R: Host>(&mut self, rt: &R) -> usize
+        ensures most { result ≤ bound_of self.old }
+        ensures queued { Held result (λ items. Arrived (shares_of self.old) (received_by self.old ++ items) (settled_by self.old)) }
+        ensures same { IsPair self.new self.old × (received_by self.new ≡ received_by self.old) × (settled_by self.new ≡ settled_by self.old) × (shares_of self.new ≡ shares_of self.old) }
+    {
+        let _gate = self.shared.gate.lock(rt);
+        self.shared.queue.len_as::<Received, R>(rt, &mut self.end)
+    }
+
+    /// Returns for how many messages the channel has places.
+    pub fn capacity(&self) -> usize
+        ensures { result ≡ bound_of self.now }
+    {
+        self.shared.queue.capacity()
+    }
+
+    /// Returns whether the channel was closed at one moment of the call: by this end, or since each sender was. Then it stays
+    /// closed.
+    pub fn is_closed<R: Host>(&self, rt: &R) -> bool {
+        self.shared.gate.lock(rt).is_closed()
+    }
+
+    /// Closes the channel, and then wakes those who wait to send, in the order in which they began to. Messages that are
+    /// queued can still be received.
     pub fn close<R: Host>(&mut self, rt: &R)
         ensures { self.new ≡ self.old }
     {
@@ -80,11 +162,11 @@ impl<T: Drop, U: Unpark> Receiver<T, U> {
     pub(crate) fn take_or_pend<R: Host>(
         &mut self,
         rt: &R,
-        waker: RemoteWaker<U>,
+        waiter: Waiter<U>,
     ) -> Poll<Result<Option<T>, AllocError>>
         ensures { PollsToReceive self.old result self.new }
     {
-        match self.look_or_wait(rt, waker) {
+        match self.look_or_wait(rt, waiter) {
             Ok((message, waiting)) => {
                 wake_all(rt, waiting);
                 Poll::Ready(Ok(Some(message)))
@@ -94,8 +176,8 @@ impl<T: Drop, U: Unpark> Receiver<T, U> {
         }
     }
 
-    // Takes the first message under the lock, with the tasks that wait to send: they are to be woken.
-    fn look<R: Host>(&mut self, rt: &R) -> Result<(T, Vec<RemoteWaker<U>>), TryRecvError>
+    // Takes the first message under the lock, with those who wait to send: they are to be woken.
+    fn look<R: Host>(&mut self, rt: &R) -> Result<(T, Vec<Waiter<U>>), TryRecvError>
         ensures { TriesToReceive self.old (first_of result) self.new }
     {
         let mut gate = self.shared.gate.lock(rt);
@@ -106,22 +188,15 @@ impl<T: Drop, U: Unpark> Receiver<T, U> {
         }
     }
 
-    // Takes the first message as `look` does, or keeps the waker under the same lock.
+    // Takes the first message as `look` does, or keeps who waits under the same lock.
     fn look_or_wait<R: Host>(
         &mut self,
         rt: &R,
-        waker: RemoteWaker<U>,
-    ) -> Result<(T, Vec<RemoteWaker<U>>), TryRecvError>
+        waiter: Waiter<U>,
+    ) -> Result<(T, Vec<Waiter<U>>), TryRecvError>
         ensures { TriesToReceive self.old (first_of result) self.new }
     {
         let mut gate = self.shared.gate.lock(rt);
-        take_or_wait(rt, &mut gate, &self.shared.queue, &mut self.end, waker)
-    }
-}
-
-// Wakes each task whose waker was taken from the gate.
-fn wake_all<U: Unpark, R: Host>(rt: &R, waiting: Vec<RemoteWaker<U>>) {
-    for waker in waiting {
-        waker.wake(rt);
+        take_or_wait(rt, &mut gate, &self.shared.queue, &mut self.end, waiter)
     }
 }

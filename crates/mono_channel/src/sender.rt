@@ -1,16 +1,22 @@
 // The end that sends, and the making of a channel.
-ghost use Rattle.std.specs.Prelude.{◌≡◌, ◌<◌, true, [], Some, None, ◌++◌, ◌∷◌, IfOk, MatchResult};
+ghost use Rattle.std.specs.Prelude.{◌≡◌, ◌<◌, ◌≤◌, true, [], Some, None, ◌++◌, ◌∷◌, IfOk, IfErr, MatchResult};
 ghost use Rattle.std.specs.Arc.{arc_value};
+ghost use Rattle.crossbeam_queue.specs.Fifo.{Held};
 ghost use Rattle.crossbeam_queue.specs.Passes.{view, IsPassOf};
-ghost use Rattle.mono_channel.specs.Ends.{sent_by, received_by, settled_by, IsPair};
-ghost use Rattle.mono_channel.specs.Errors.{message_of};
+ghost use Rattle.mono_channel.specs.Ends.{sent_by, received_by, settled_by, shares_of, bound_of, IsPair};
+ghost use Rattle.mono_channel.specs.Delivery.{all_shares, shares_kept, shares_given};
+ghost use Rattle.mono_channel.specs.Errors.{message_of, IfFull, OnFull};
+ghost use Rattle.mono_channel.specs.Queues.{IsQueued, WasFull};
 ghost use Rattle.mono_channel.specs.Polls.{PollsToSend};
+ghost use Rattle.mono_model.specs.declared.poll.Poll.TheVariants.{Ready};
+ghost use Rattle.mono_model.specs.Poll.{OnPending};
 
 use crate::ends::{Receiver, Sender, Shared};
 use crate::errors::{SendError, TrySendError};
 use crate::gate::{Gate, put};
-use crate::rule::{End, Joins, queue_of};
-use mono_inbox::{RemoteWaker, Unpark};
+use crate::rule::{End, Joins, Opens, Sent, queue_of};
+use crate::waiters::{Waiter, wake_first};
+use mono_inbox::{Parker, RemoteWaker, Unpark};
 use mono_model::{Host, Poll};
 use std::alloc::{AllocError, Global};
 use std::mem;
@@ -25,20 +31,15 @@ pub fn channel<T: Drop, U: Unpark>(
     ensures pair { IfOk result (λ r. IsPair r.0 r.1) }
     ensures sent { IfOk result (λ r. sent_by r.0 ≡ []) }
     ensures received { IfOk result (λ r. (received_by r.1 ≡ []) × (settled_by r.1 ≡ [])) }
+    ensures shares { IfOk result (λ r. (shares_of r.0 ≡ all_shares) × (shares_of r.1 ≡ 0)) }
+    ensures bound { IfOk result (λ r. bound_of r.0 ≡ bound) }
 {
     let (queue, mut first) = queue_of(alloc, bound)?;
-    let end = queue.another::<Joins>(&mut first);
+    let end = queue.another::<Opens>(&mut first);
     let gate = Mutex::new(Gate::new(alloc));
     let shared = Arc::new(alloc, Shared { queue, gate })?;
     let theirs = Arc::try_clone(&shared)?;
     Ok((Sender::over(shared, end), Receiver::over(theirs, first)))
-}
-
-// Wakes the task whose waker was taken from the gate, if any.
-pub(crate) fn wake_first<U: Unpark, R: Host>(rt: &R, first: Option<RemoteWaker<U>>) {
-    if let Some(waker) = first {
-        waker.wake(rt);
-    }
 }
 
 impl<T: Drop, U: Unpark> Sender<T, U> {
@@ -60,6 +61,7 @@ impl<T: Drop, U: Unpark> Sender<T, U> {
     pub fn try_clone<R: Host>(&mut self, rt: &R) -> Result<Sender<T, U>, AllocError>
         ensures same { IsPair self.new self.old × (sent_by self.new ≡ sent_by self.old) }
         ensures further { IfOk result (λ s. IsPair s self.old × (sent_by s ≡ [])) }
+        ensures shares { IfOk result (λ s. (shares_of self.new ≡ shares_kept (shares_of self.old)) × (shares_of s ≡ shares_given (shares_of self.old))) }
     {
         let shared = Arc::try_clone(&self.shared)?;
         let end = self.shared.queue.another::<Joins>(&mut self.end);
@@ -73,11 +75,12 @@ impl<T: Drop, U: Unpark> Sender<T, U> {
 
     /// Queues a message at once, and then wakes the task that waits to receive.
     ///
-    /// Refused with `Closed` if the channel or this sender was closed, and with `Full` if each place is taken. A refused
-    /// message comes back.
+    /// Refused with `Closed` if the channel or this sender was closed, and with `Full` if each place is taken: as many
+    /// messages were queued as the channel has places (`full`). A refused message comes back.
     pub fn try_send<R: Host>(&mut self, rt: &R, message: T) -> Result<(), TrySendError<T>>
         ensures sent { MatchResult result (λ done. sent_by self.new ≡ sent_by self.old ++ message ∷ []) (λ e. (message_of e ≡ message) × (sent_by self.new ≡ sent_by self.old)) }
-        ensures same { IsPair self.new self.old }
+        ensures full { OnFull result (WasFull self.old) }
+        ensures same { IsPair self.new self.old × (shares_of self.new ≡ shares_of self.old) }
     {
         if self.is_closed {
             return Err(TrySendError::Closed(message));
@@ -88,30 +91,29 @@ impl<T: Drop, U: Unpark> Sender<T, U> {
     }
 
     // Queues a message under the lock. The task that waits to receive is to be woken.
-    fn queue<R: Host>(
-        &mut self,
-        rt: &R,
-        message: T,
-    ) -> Result<Option<RemoteWaker<U>>, TrySendError<T>>
+    fn queue<R: Host>(&mut self, rt: &R, message: T) -> Result<Option<Waiter<U>>, TrySendError<T>>
         ensures sent { MatchResult result (λ first. sent_by self.new ≡ sent_by self.old ++ message ∷ []) (λ e. (message_of e ≡ message) × (sent_by self.new ≡ sent_by self.old)) }
-        ensures same { IsPair self.new self.old }
+        ensures full { OnFull result (WasFull self.old) }
+        ensures same { IsPair self.new self.old × (shares_of self.new ≡ shares_of self.old) }
     {
         let mut gate = self.shared.gate.lock(rt);
         put(rt, &mut gate, &self.shared.queue, &mut self.end, message)
     }
 
-    /// Sends the message, or keeps it and waits while each place is taken: the receiver then wakes this waker's task when it
-    /// takes a message and when it closes the channel.
+    /// Sends the message, or keeps it and waits while each place is taken (`full`): the receiver then wakes this waker's task
+    /// when it takes a message and when it closes the channel. A further poll takes the place of an earlier one in line.
     ///
     /// Fails if the channel or this sender was closed, or there was no memory to wait in; the message comes back. It does
     /// nothing if there is no message.
+    #[tactic(auto, using(crate::proofs::PollLemmas::on_pending))]
     pub fn poll_send<R: Host>(
         &mut self,
         rt: &R,
         waker: &RemoteWaker<U>,
         message: &mut Option<T>,
     ) -> Poll<Result<(), SendError<T>>>
-        ensures { PollsToSend self.old message.old result self.new message.new }
+        ensures polled { PollsToSend self.old message.old result self.new message.new }
+        ensures full { OnPending result (WasFull self.old) }
     {
         let Some(first) = mem::replace(message, None) else {
             return Poll::Ready(Ok(()));
@@ -122,12 +124,85 @@ impl<T: Drop, U: Unpark> Sender<T, U> {
             Err(TrySendError::Full(back)) => back,
         };
         match waker.clone() {
-            Ok(waker) => self.send_or_pend(rt, waker, again, message),
+            Ok(waker) => self.send_or_pend(rt, Waiter::Task(waker), again, message),
             Err(_) => Poll::Ready(Err(SendError::Memory(again))),
         }
     }
 
-    /// Closes this sender, and the channel if it was the last that was open: then wakes the task that waits to receive.
+    /// Sends the message, and parks this thread while each place is taken: for a thread without a runtime.
+    ///
+    /// Fails if the channel or this sender was closed, and then if out of memory; the message comes back.
+    #[tactic(auto, using(crate::proofs::PollLemmas::sends_at_last, crate::proofs::PollLemmas::waits_on))]
+    pub fn blocking_send<R: Host>(
+        &mut self,
+        rt: &R,
+        alloc: Global,
+        message: T,
+    ) -> Result<(), SendError<T>>
+        ensures { PollsToSend self.old (Some message) (Ready result) self.new None }
+    {
+        let again = match self.try_send(rt, message) {
+            Ok(()) => return Ok(()),
+            Err(TrySendError::Closed(back)) => return Err(SendError::Closed(back)),
+            Err(TrySendError::Full(back)) => back,
+        };
+        let Ok(parker) = Parker::new(alloc) else {
+            return Err(SendError::Memory(again));
+        };
+        let mut kept = Some(again);
+        for _ in rt.forever() {
+            match self.send_or_park(rt, &parker, &mut kept) {
+                Poll::Ready(answer) => return answer,
+                Poll::Pending => parker.park(rt),
+            }
+        }
+        unreachable!()
+    }
+
+    // Sends the message, or keeps it and lets the next take and the close of the channel end the parker's wait.
+    fn send_or_park<R: Host>(
+        &mut self,
+        rt: &R,
+        parker: &Parker,
+        message: &mut Option<T>,
+    ) -> Poll<Result<(), SendError<T>>>
+        ensures { PollsToSend self.old message.old result self.new message.new }
+    {
+        let Some(first) = mem::replace(message, None) else {
+            return Poll::Ready(Ok(()));
+        };
+        if self.is_closed {
+            return Poll::Ready(Err(SendError::Closed(first)));
+        }
+        match parker.handle() {
+            Ok(handle) => self.send_or_pend(rt, Waiter::Thread(handle), first, message),
+            Err(_) => Poll::Ready(Err(SendError::Memory(first))),
+        }
+    }
+
+    /// Returns how many messages were queued at one moment of the call.
+    pub fn len<R: Host>(&mut self, rt: &R) -> usize
+        ensures most { result ≤ bound_of self.old }
+        ensures queued { Held result (IsQueued (sent_by self.old)) }
+        ensures same { IsPair self.new self.old × (sent_by self.new ≡ sent_by self.old) × (shares_of self.new ≡ shares_of self.old) }
+    {
+        let _gate = self.shared.gate.lock(rt);
+        self.shared.queue.len_as::<Sent, R>(rt, &mut self.end)
+    }
+
+    /// Returns for how many messages the channel has places.
+    pub fn capacity(&self) -> usize
+        ensures { result ≡ bound_of self.now }
+    {
+        self.shared.queue.capacity()
+    }
+
+    /// Returns whether this sender or the channel was closed at one moment of the call. Then it stays closed.
+    pub fn is_closed<R: Host>(&self, rt: &R) -> bool {
+        self.is_closed || self.shared.gate.lock(rt).is_closed()
+    }
+
+    /// Closes this sender, and the channel if it was the last that was open: then wakes who waits to receive.
     pub fn close<R: Host>(&mut self, rt: &R)
         ensures { self.new ≡ self.old }
     {
@@ -143,14 +218,15 @@ impl<T: Drop, U: Unpark> Sender<T, U> {
     pub(crate) fn send_or_pend<R: Host>(
         &mut self,
         rt: &R,
-        waker: RemoteWaker<U>,
+        waiter: Waiter<U>,
         message: T,
         kept: &mut Option<T>,
     ) -> Poll<Result<(), SendError<T>>>
         requires { kept.old ≡ None }
         ensures sent { PollsToSend self.old (Some message) result self.new kept.new }
+        ensures full { OnPending result (WasFull self.old) }
     {
-        match self.queue_or_wait(rt, waker, message) {
+        match self.queue_or_wait(rt, waiter, message) {
             Ok(first) => {
                 wake_first(rt, first);
                 Poll::Ready(Ok(()))
@@ -164,22 +240,23 @@ impl<T: Drop, U: Unpark> Sender<T, U> {
         }
     }
 
-    // Queues a message as `queue` does, or keeps the waker under the same lock if each place is taken. The second part of an
-    // error says whether it was kept.
+    // Queues a message as `queue` does, or keeps who waits under the same lock if each place is taken. The second part of
+    // an error says whether it was kept.
     fn queue_or_wait<R: Host>(
         &mut self,
         rt: &R,
-        waker: RemoteWaker<U>,
+        waiter: Waiter<U>,
         message: T,
-    ) -> Result<Option<RemoteWaker<U>>, (TrySendError<T>, bool)>
+    ) -> Result<Option<Waiter<U>>, (TrySendError<T>, bool)>
         ensures sent { MatchResult result (λ first. sent_by self.new ≡ sent_by self.old ++ message ∷ []) (λ e. (message_of e.0 ≡ message) × (sent_by self.new ≡ sent_by self.old)) }
-        ensures same { IsPair self.new self.old }
+        ensures full { IfErr result (λ e. IfFull e.0 (WasFull self.old)) }
+        ensures same { IsPair self.new self.old × (shares_of self.new ≡ shares_of self.old) }
     {
         let mut gate = self.shared.gate.lock(rt);
         match put(rt, &mut gate, &self.shared.queue, &mut self.end, message) {
             Ok(first) => Ok(first),
             Err(TrySendError::Closed(back)) => Err((TrySendError::Closed(back), false)),
-            Err(TrySendError::Full(back)) => match gate.wait_to_send(waker, self.seat) {
+            Err(TrySendError::Full(back)) => match gate.wait_to_send(waiter, self.seat) {
                 Ok(seat) => {
                     self.seat = Some(seat);
                     Err((TrySendError::Full(back), true))

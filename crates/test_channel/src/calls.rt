@@ -64,3 +64,42 @@ fn the_last_sender_closes_the_channel(rt: HostRuntime) {
     second.close(&rt);
     assert!(rt; matches!(receiver.try_recv(&rt), Err(TryRecvError::Disconnected)));
 }
+
+#[test]
+fn a_channel_takes_as_many_messages_as_it_has_places(rt: HostRuntime) {
+    for bound in 1..5usize {
+        let (mut sender, mut receiver) = channel::<u64, NoUnpark>(rt.alloc(), bound).expect(
+            &rt, "memory",
+        );
+        assert_eq!(rt; sender.capacity(), bound);
+        assert_eq!(rt; receiver.capacity(), bound);
+        for number in 0..bound {
+            assert_eq!(rt; receiver.len(&rt), number);
+            assert!(rt; sender.try_send(&rt, 7).is_ok());
+        }
+        assert_eq!(rt; sender.len(&rt), bound);
+        assert!(rt; matches!(sender.try_send(&rt, 8), Err(TrySendError::Full(8))));
+        assert_eq!(rt; next(&rt, &mut receiver), Some(7));
+        assert_eq!(rt; sender.len(&rt), bound - 1);
+        assert!(rt; sender.try_send(&rt, 9).is_ok());
+    }
+}
+
+#[test]
+fn a_channel_is_closed_once_each_sender_is(rt: HostRuntime) {
+    let (mut sender, receiver) = a_channel(rt.alloc()).expect(&rt, "memory");
+    let mut second = sender.try_clone(&rt).expect(&rt, "a count");
+    sender.close(&rt);
+    assert!(rt; sender.is_closed(&rt));
+    assert!(rt; !second.is_closed(&rt) && !receiver.is_closed(&rt));
+    second.close(&rt);
+    assert!(rt; second.is_closed(&rt) && receiver.is_closed(&rt));
+}
+
+#[test]
+fn a_channel_is_closed_once_its_receiver_is(rt: HostRuntime) {
+    let (sender, mut receiver) = a_channel(rt.alloc()).expect(&rt, "memory");
+    assert!(rt; !sender.is_closed(&rt) && !receiver.is_closed(&rt));
+    receiver.close(&rt);
+    assert!(rt; sender.is_closed(&rt) && receiver.is_closed(&rt));
+}

@@ -9,7 +9,7 @@ ghost use Rattle.mono_model.specs.Tasks.{no_tasks};
 
 use crate::calls::a_channel;
 use mono_blocking::RemoteContext;
-use mono_channel::{Receiver, Recv, Send, SendError, Sender};
+use mono_channel::{Receiver, SendError, Sender};
 use mono_inbox::{Inbox, NoUnpark, RemoteWaker};
 use mono_model::{Host, Poll};
 use mono_task::{Context, TaskError, TaskFuture, Woke};
@@ -45,7 +45,7 @@ fn perform<R: Host>(rt: &R, act: Act) {
 
 /// The context of one task, in which another end acts once when the task's waker is asked for.
 #[derive(Drop)]
-struct Gap<R: Host + Drop> {
+pub(crate) struct Gap<R: Host + Drop> {
     rt: R,
     act: Mutex<Act>,
     waker: RemoteWaker<NoUnpark>,
@@ -128,11 +128,20 @@ fn with_gap<R: Host + Abort + Copy + Drop>(
     }
 }
 
+// The context of the task 7 of this inbox, in which nothing acts.
+pub(crate) fn nothing<R: Host + Abort + Copy + Drop>(
+    rt: R,
+    alloc: Global,
+    inbox: &Inbox<NoUnpark>,
+) -> Gap<R> {
+    with_gap(rt, alloc, inbox, Act::Nothing)
+}
+
 // How a receive with such a gap ended: None if it waits, and else its message.
 fn received<R: Host + Abort + Copy + Drop>(
     rt: R,
     alloc: Global,
-    receiver: Receiver<u64, NoUnpark>,
+    mut receiver: Receiver<u64, NoUnpark>,
     act: Act,
 ) -> Option<Option<u64>> {
     let inbox = Inbox::new(alloc, 8, NoUnpark).expect(&rt, "memory");
@@ -140,7 +149,7 @@ fn received<R: Host + Abort + Copy + Drop>(
     let mut recv = receiver.recv();
     match polled(&rt, alloc, &mut cx, &mut recv) {
         Poll::Pending => None,
-        Poll::Ready((_receiver, answer)) => Some(answer.expect(&rt, "memory")),
+        Poll::Ready(answer) => Some(answer.expect(&rt, "memory")),
     }
 }
 
@@ -148,7 +157,7 @@ fn received<R: Host + Abort + Copy + Drop>(
 fn sent<R: Host + Abort + Copy + Drop>(
     rt: R,
     alloc: Global,
-    sender: Sender<u64, NoUnpark>,
+    mut sender: Sender<u64, NoUnpark>,
     act: Act,
 ) -> Option<bool> {
     let inbox = Inbox::new(alloc, 8, NoUnpark).expect(&rt, "memory");
@@ -156,10 +165,8 @@ fn sent<R: Host + Abort + Copy + Drop>(
     let mut send = sender.send(12);
     match polled(&rt, alloc, &mut cx, &mut send) {
         Poll::Pending => None,
-        Poll::Ready((_sender, answer)) => match answer {
-            Ok(()) => Some(true),
-            Err(refused) => closed(rt, refused),
-        },
+        Poll::Ready(Ok(())) => Some(true),
+        Poll::Ready(Err(refused)) => closed(rt, refused),
     }
 }
 
@@ -175,7 +182,7 @@ fn closed<R: Host + Abort + Copy + Drop>(rt: R, refused: SendError<u64>) -> Opti
 }
 
 // Polls a future once.
-fn polled<F: TaskFuture<Gap<R>>, R: Host + Abort + Drop>(
+pub(crate) fn polled<F: TaskFuture<Gap<R>>, R: Host + Abort + Drop>(
     rt: &R,
     alloc: Global,
     cx: &mut Gap<R>,

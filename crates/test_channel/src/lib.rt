@@ -2,11 +2,15 @@
 #![tactic(auto)]
 
 #[cfg(test)]
+mod blocks;
+#[cfg(test)]
 mod calls;
 #[cfg(test)]
 mod closes;
 #[cfg(test)]
 mod crossings;
+#[cfg(test)]
+mod futures;
 #[cfg(test)]
 mod gaps;
 #[cfg(test)]

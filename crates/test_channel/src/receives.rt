@@ -1,6 +1,6 @@
 // A task that receives by a future beside one that sends, on one runtime.
 
-use mono_channel::{Recv, Sender, channel};
+use mono_channel::{Receiver, Sender, channel};
 use mono_inbox::NoUnpark;
 use mono_rt::{
     Context, Host, NoPool, Poll, RemoteContext, RunError, Runtime, RuntimeBuilder, StepDriver,
@@ -15,7 +15,7 @@ enum Party {
     /// It sends 7 in its second turn, and then closes its sender.
     Sends(Sender<u64, NoUnpark>, bool),
     /// It receives until the channel is closed, and answers the sum of the numbers; 9000 if out of memory.
-    Receives(Recv<u64, NoUnpark>, u64),
+    Receives(Receiver<u64, NoUnpark>, u64),
 }
 
 // Queues the running task again after its turn.
@@ -31,26 +31,20 @@ fn receive<C: RemoteContext<NoUnpark>, R: Host>(
     rt: &R,
     alloc: Global,
     cx: &mut C,
-    recv: &mut Recv<u64, NoUnpark>,
+    receiver: &mut Receiver<u64, NoUnpark>,
     sum: &mut u64,
 ) -> Poll<u64>
     ensures { C.reaches cx.old cx.new }
 {
-    if TaskFuture::<C>::spent(recv) {
-        return Poll::Ready(9001);
-    }
-    match TaskFuture::<C>::poll(recv, rt, alloc, cx) {
+    match receiver.recv().poll(rt, alloc, cx) {
         Poll::Pending => Poll::Pending,
-        Poll::Ready((receiver, answer)) => match answer {
-            Ok(Some(number)) => {
-                *sum = sum.saturating_add(number);
-                *recv = receiver.recv();
-                again(cx);
-                Poll::Pending
-            }
-            Ok(None) => Poll::Ready(*sum),
-            Err(_) => Poll::Ready(9000),
-        },
+        Poll::Ready(Ok(Some(number))) => {
+            *sum = sum.saturating_add(number);
+            again(cx);
+            Poll::Pending
+        }
+        Poll::Ready(Ok(None)) => Poll::Ready(*sum),
+        Poll::Ready(Err(_)) => Poll::Ready(9000),
     }
 }
 
@@ -73,15 +67,11 @@ impl<C: RemoteContext<NoUnpark>> TaskFuture<C> for Party {
                 again(cx);
                 Poll::Pending
             }
-            Party::Receives(recv, sum) => receive(rt, alloc, cx, recv, sum),
+            Party::Receives(receiver, sum) => receive(rt, alloc, cx, receiver, sum),
         }
     }
 
-    fn cancel(self, cx: &mut C) {
-        if let Party::Receives(recv, _) = self {
-            recv.cancel(cx);
-        }
-    }
+    fn cancel(self, _cx: &mut C) {}
 }
 
 // Receives in the main task what another task sends once the main task waits.
@@ -93,7 +83,7 @@ fn received<R: Host + Abort>(rt: &R, alloc: Global) -> Result<u64, RunError> {
         .expect(rt, "memory");
     let is_spawned = runtime.spawn(alloc, Party::Sends(sender, false)).is_ok();
     assert!(rt; is_spawned);
-    runtime.block_on(rt, alloc, Party::Receives(receiver.recv(), 0), 100)
+    runtime.block_on(rt, alloc, Party::Receives(receiver, 0), 100)
 }
 
 #[test]

@@ -141,6 +141,33 @@ fn a_receive_wakes_the_senders_that_wait(rt: HostRuntime) {
     assert_eq!(rt; woken(&rt, alloc, &tasks), 8);
 }
 
+// The tasks that were woken since the last drain, in order: the first one is the tens.
+fn woken_in_order<R: Host + Abort>(rt: &R, alloc: Global, tasks: &Tasks) -> u64 {
+    let mut list = Vec::new(alloc);
+    if tasks.inbox.drain(rt, alloc, &mut list).is_err() {
+        tasks.inbox.drain(rt, alloc, &mut list).expect(rt, "memory");
+    }
+    let mut digits = 0u64;
+    for task in list {
+        digits = digits.wrapping_mul(10).wrapping_add(task);
+    }
+    digits
+}
+
+#[test]
+fn the_first_sender_that_waits_is_woken_first(rt: HostRuntime) {
+    let alloc = rt.alloc();
+    let tasks = two_tasks(&rt, alloc);
+    let (mut sender, mut receiver) = a_channel(alloc).expect(&rt, "memory");
+    let mut second = sender.try_clone(&rt).expect(&rt, "a count");
+    assert!(rt; fill(&rt, &mut sender));
+    assert!(rt; holds(&rt, &mut second, &tasks.eight, 13));
+    assert!(rt; holds(&rt, &mut sender, &tasks.seven, 12));
+    assert!(rt; holds(&rt, &mut second, &tasks.eight, 13));
+    assert!(rt; receiver.try_recv(&rt).is_ok());
+    assert_eq!(rt; woken_in_order(&rt, alloc, &tasks), 87);
+}
+
 #[test]
 fn a_close_wakes_the_senders_that_wait(rt: HostRuntime) {
     let alloc = rt.alloc();

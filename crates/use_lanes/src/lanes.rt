@@ -1,7 +1,7 @@
 // The task that sends numbers, and the task that receives them.
 ghost use Rattle.use_lanes.specs.Lanes.{is_over};
 
-use mono_channel::{Receiver, Recv, Send, Sender};
+use mono_channel::{Receiver, Sender};
 use mono_rt::{Context, Host, Poll, RemoteContext, TaskFuture, UnparkHandle};
 use std::alloc::Global;
 use std::mem;
@@ -10,9 +10,9 @@ use std::mem;
 #[derive(Drop)]
 pub enum Lane {
     /// It sends this number, and then so many more.
-    Sends(Send<u64, UnparkHandle>, u64, u64),
+    Sends(Sender<u64, UnparkHandle>, u64, u64),
     /// It receives; how many numbers came, and their sum, each times its place.
-    Receives(Recv<u64, UnparkHandle>, u64, u64),
+    Receives(Receiver<u64, UnparkHandle>, u64, u64),
     /// It has answered.
     Over,
 }
@@ -21,13 +21,13 @@ impl Lane {
     /// Returns a task that sends 0 and the numbers after it below `count`, and then closes its sender. It answers how many
     /// it sent.
     pub fn producer(sender: Sender<u64, UnparkHandle>, count: u64) -> Lane {
-        Lane::Sends(sender.send(0), 0, count.saturating_sub(1))
+        Lane::Sends(sender, 0, count.saturating_sub(1))
     }
 
     /// Returns a task that receives until the channel is closed. It answers the sum of the numbers, each times its place, or
     /// 0 if out of memory.
     pub fn consumer(receiver: Receiver<u64, UnparkHandle>) -> Lane {
-        Lane::Receives(receiver.recv(), 0, 0)
+        Lane::Receives(receiver, 0, 0)
     }
 }
 
@@ -45,64 +45,53 @@ impl<C: RemoteContext<UnparkHandle>> TaskFuture<C> for Lane {
     ghost is_spent = { is_over };
 
     fn spent(&self) -> bool {
-        match self {
-            Lane::Over => true,
-            Lane::Sends(send, _, _) => TaskFuture::<C>::spent(send),
-            Lane::Receives(recv, _, _) => TaskFuture::<C>::spent(recv),
-        }
+        matches!(self, Lane::Over)
     }
 
     fn poll<R: Host>(&mut self, rt: &R, alloc: Global, cx: &mut C) -> Poll<u64> {
         match mem::replace(self, Lane::Over) {
             Lane::Over => Poll::Ready(0),
-            Lane::Sends(send, number, left) => {
-                let mut send = send;
-                match send.poll(rt, alloc, cx) {
+            Lane::Sends(sender, number, left) => {
+                let mut sender = sender;
+                let polled = sender.send(number).poll(rt, alloc, cx);
+                match polled {
                     Poll::Pending => {
-                        *self = Lane::Sends(send, number, left);
+                        *self = Lane::Sends(sender, number, left);
                         Poll::Pending
                     }
-                    Poll::Ready((sender, answer)) => {
-                        let mut sender = sender;
+                    Poll::Ready(answer) => {
                         let sent = number.saturating_add(u64::from(answer.is_ok()));
                         if left == 0 || answer.is_err() {
                             sender.close(rt);
                             return Poll::Ready(sent);
                         }
-                        *self = Lane::Sends(sender.send(sent), sent, left - 1);
+                        *self = Lane::Sends(sender, sent, left - 1);
                         again(cx);
                         Poll::Pending
                     }
                 }
             }
-            Lane::Receives(recv, place, sum) => {
-                let mut recv = recv;
-                match recv.poll(rt, alloc, cx) {
+            Lane::Receives(receiver, place, sum) => {
+                let mut receiver = receiver;
+                let polled = receiver.recv().poll(rt, alloc, cx);
+                match polled {
                     Poll::Pending => {
-                        *self = Lane::Receives(recv, place, sum);
+                        *self = Lane::Receives(receiver, place, sum);
                         Poll::Pending
                     }
-                    Poll::Ready((receiver, answer)) => match answer {
-                        Ok(Some(number)) => {
-                            let place = place.wrapping_add(1);
-                            let sum = sum.wrapping_add(number.wrapping_mul(place));
-                            *self = Lane::Receives(receiver.recv(), place, sum);
-                            again(cx);
-                            Poll::Pending
-                        }
-                        Ok(None) => Poll::Ready(sum),
-                        Err(_) => Poll::Ready(0),
-                    },
+                    Poll::Ready(Ok(Some(number))) => {
+                        let place = place.wrapping_add(1);
+                        let sum = sum.wrapping_add(number.wrapping_mul(place));
+                        *self = Lane::Receives(receiver, place, sum);
+                        again(cx);
+                        Poll::Pending
+                    }
+                    Poll::Ready(Ok(None)) => Poll::Ready(sum),
+                    Poll::Ready(Err(_)) => Poll::Ready(0),
                 }
             }
         }
     }
 
-    fn cancel(self, cx: &mut C) {
-        match self {
-            Lane::Over => {}
-            Lane::Sends(send, _, _) => send.cancel(cx),
-            Lane::Receives(recv, _, _) => recv.cancel(cx),
-        }
-    }
+    fn cancel(self, _cx: &mut C) {}
 }

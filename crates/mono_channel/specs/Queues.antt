@@ -1,0 +1,14 @@
+-- What is queued, beside what one sender has sent.
+use Rattle.std.specs.Prelude.{◌≡◌, ℕ, List, ◌++◌, map}
+use Rattle.crossbeam_queue.specs.Fifo.{Held}
+use Rattle.mono_channel.specs.Delivery.{of}
+use Rattle.mono_channel.specs.Ends.{Ends, sent_by, bound_of}
+
+-- The messages sent so far are those received and then these, the queued ones. Those with this sender's number are what it
+-- sent, in order.
+abbrev pub IsQueued : {T : Type 0} → List T → List T → Type 0
+IsQueued {T} sent items = (number : ℕ) × (received : List T) × (all : List (ℕ × T)) × (map (λ m. m.1) all ≡ received ++ items) × (of number all ≡ sent)
+
+-- At one moment as many messages were queued as the channel has places.
+abbrev pub WasFull : {T : Type 0} → Ends T → Type 0
+WasFull s = Held (bound_of s) (IsQueued (sent_by s))
