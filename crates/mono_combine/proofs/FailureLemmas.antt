@@ -8,8 +8,8 @@ use Rattle.mono_combine.specs.declared.try_joins.TryJoin2.{TryJoin2}
 use Rattle.mono_combine.specs.Branches.{Advances, MaybeCancels}
 use Rattle.mono_combine.specs.TryJoins.{failure_of, without_failure, TryJoinPolls}
 
-module _ {C A B X Y E : Type 0} (a : FutureOf A C (Result X E)) (b : FutureOf B C (Result Y E)) (f : TryJoin2 C A B (Result X E) (Result Y E)) (c between d : C) (e : E) where
-  pub first_failed : (first left : MaybeDone C A (Result X E)) (emptied : MaybeDone C B (Result Y E))
+module _ {C A B X Y E : Type 0} (a : FutureOf A C (Result X E)) (b : FutureOf B C (Result Y E)) (f : TryJoin2 A B X Y E) (c between d : C) (e : E) where
+  pub first_failed : (first left : MaybeDone A (Result X E)) (emptied : MaybeDone B (Result Y E))
       → Advances a f.a c first between → Some e ≡ failure_of first → left ≡ without_failure first → emptied ≡ Gone → MaybeCancels b f.b between d
       → TryJoinPolls a b f c (Ready (Err e)) (record { a = left; b = emptied }) d
   first_failed (Future g) left emptied polled is after last given_up = absurd (cc)
@@ -27,7 +27,7 @@ module _ {C A B X Y E : Type 0} (a : FutureOf A C (Result X E)) (b : FutureOf B 
     ends = (refl, (between, refl, given_up));
   })
 
-  pub second_failed : (first : MaybeDone C A (Result X E)) (second left : MaybeDone C B (Result Y E)) (emptied : MaybeDone C A (Result X E)) (after : C)
+  pub second_failed : (first : MaybeDone A (Result X E)) (second left : MaybeDone B (Result Y E)) (emptied : MaybeDone A (Result X E)) (after : C)
       → Advances a f.a c first between → failure_of first ≡ None → Advances b f.b between second after → Some e ≡ failure_of second
       → left ≡ without_failure second → emptied ≡ Gone → MaybeCancels a first after d
       → TryJoinPolls a b f c (Ready (Err e)) (record { a = emptied; b = left }) d
@@ -69,8 +69,8 @@ module _ {C A B X Y E : Type 0} (a : FutureOf A C (Result X E)) (b : FutureOf B 
     ends = (refl, (d, given_up, refl));
   })
 
-module _ {C A X E : Type 0} where
-  pub kept : (m : MaybeDone C A (Result X E)) → failure_of m ≡ None → without_failure m ≡ m
+module _ {A X E : Type 0} where
+  pub kept : (m : MaybeDone A (Result X E)) → failure_of m ≡ None → without_failure m ≡ m
   kept (Future g) free = refl
   kept (Done (Ok x)) free = refl
   kept (Done (Err e)) free = absurd (cc)

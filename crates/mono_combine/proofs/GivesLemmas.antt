@@ -19,7 +19,7 @@ use Rattle.mono_combine.specs.declared.select.Out2.TheVariants.{First, Second, D
 use Rattle.mono_combine.specs.declared.select.Select2.{Select2}
 use Rattle.mono_combine.specs.declared.try_joins.TryJoin2.{TryJoin2}
 use Rattle.mono_combine.specs.BranchLists.{AllMayPoll}
-use Rattle.mono_combine.specs.Looks.{BranchGives, BranchNarrows, LookGives}
+use Rattle.mono_combine.specs.Looks.{BranchGives, BranchNarrows, LookGives, TestsGiven}
 use Rattle.mono_combine.specs.Selects.{SelectGives, PickGives, SelectNarrows, then_look, as_first, as_second, or_disabled}
 use Rattle.mono_combine.specs.ListSelects as row
 use Rattle.mono_combine.specs.TryJoins.{failure_of, without_failure, TryJoinGives}
@@ -59,7 +59,7 @@ module _ {M O : Type 0} (G : M → O → Type 0) where
 
 module _ {C T O : Type 0} (future : FutureOf T C O) where
   -- If none waits, each branch has given its output.
-  pub all_given : (xs : List (MaybeDone C T O)) → AllMayPoll future xs → list_any is_waiting xs ≡ false → AllZip (MaybeGives future.gives) xs (filter_map output_of xs)
+  pub all_given : (xs : List (MaybeDone T O)) → AllMayPoll future xs → list_any is_waiting xs ≡ false → AllZip (MaybeGives future.gives) xs (filter_map output_of xs)
   all_given [] may h = tt
   all_given (Future f ∷ xs) may h = absurd (cc)
   all_given (Done x ∷ xs) may h = (refl, all_given xs may.1 h)
@@ -67,23 +67,23 @@ module _ {C T O : Type 0} (future : FutureOf T C O) where
 
 module _ {C T X E : Type 0} (future : FutureOf T C (Result X E)) where
   -- If none waits and none has failed, each branch has given its value.
-  pub values_given : (xs : List (MaybeDone C T (Result X E))) → AllMayPoll future xs → list_any has_failed xs ≡ false → list_any is_waiting xs ≡ false → AllZip (GivesValue future.gives) xs (filter_map value_in xs)
+  pub values_given : (xs : List (MaybeDone T (Result X E))) → AllMayPoll future xs → list_any has_failed xs ≡ false → list_any is_waiting xs ≡ false → AllZip (GivesValue future.gives) xs (filter_map value_in xs)
   values_given [] may well h = tt
   values_given (Future f ∷ xs) may well h = absurd (cc)
   values_given (Done (Ok x) ∷ xs) may well h = (refl, values_given xs may.1 well h)
   values_given (Done (Err e) ∷ xs) may well h = absurd (cc)
   values_given (Gone ∷ xs) may well h = let spent = may.0.0 in absurd (cc)
 
-module _ {C T X E : Type 0} (gives : T → Result X E → Type 0) where
+module _ {T X E : Type 0} (gives : T → Result X E → Type 0) where
   -- One of the branches has given the first error.
-  pub error_given : (xs : List (MaybeDone C T (Result X E))) (e : E) → first_failure xs ≡ Some e → OneFails gives xs e
+  pub error_given : (xs : List (MaybeDone T (Result X E))) (e : E) → first_failure xs ≡ Some e → OneFails gives xs e
   error_given [] e first = absurd (cc)
   error_given (Future f ∷ xs) e first = inr (error_given xs e first)
   error_given (Done (Ok x) ∷ xs) e first = inr (error_given xs e first)
   error_given (Done (Err y) ∷ xs) e first = inl (cc)
   error_given (Gone ∷ xs) e first = inr (error_given xs e first)
 
-  pub error_before : (xs ys : List (MaybeDone C T (Result X E))) (e : E) → AllZip (MaybeNarrows gives) xs ys → OneFails gives xs e → OneFails gives ys e
+  pub error_before : (xs ys : List (MaybeDone T (Result X E))) (e : E) → AllZip (MaybeNarrows gives) xs ys → OneFails gives xs e → OneFails gives ys e
   error_before [] ys e h k = absurd k
   error_before (x ∷ xs) [] e h k = absurd h
   error_before (x ∷ xs) (y ∷ ys) e h k = elim k [
@@ -92,26 +92,26 @@ module _ {C T X E : Type 0} (gives : T → Result X E → Type 0) where
   ]
 
   -- The branch has given an error that was taken.
-  pub failure_given : (m : MaybeDone C T (Result X E)) (e : E) → failure_of m ≡ Some e → MaybeGives gives m (Err e)
+  pub failure_given : (m : MaybeDone T (Result X E)) (e : E) → failure_of m ≡ Some e → MaybeGives gives m (Err e)
   failure_given (Future f) e is = absurd (cc)
   failure_given (Done (Ok x)) e is = absurd (cc)
   failure_given (Done (Err y)) e is = cc
   failure_given Gone e is = absurd (cc)
 
   -- a branch whose error may have been taken gives no more than before
-  pub without_narrows : (m : MaybeDone C T (Result X E)) → MaybeNarrows gives (without_failure m) m
+  pub without_narrows : (m : MaybeDone T (Result X E)) → MaybeNarrows gives (without_failure m) m
   without_narrows (Future f) x h = h
   without_narrows (Done (Ok y)) x h = h
   without_narrows (Done (Err e)) x h = absurd h
   without_narrows Gone x h = absurd h
 
   -- The list gives only results that it gave before.
-  pub result_before : (xs ys : List (MaybeDone C T (Result X E))) (r : Result (List X) E) → AllZip (MaybeNarrows gives) xs ys → TryJoinListGives gives xs r → TryJoinListGives gives ys r
+  pub result_before : (xs ys : List (MaybeDone T (Result X E))) (r : Result (List X) E) → AllZip (MaybeNarrows gives) xs ys → TryJoinListGives gives xs r → TryJoinListGives gives ys r
   result_before xs ys (Ok vs) h k = narrows_each (MaybeGives gives) (GivesValue gives) (λ n m x to. to (Ok x)) xs ys vs h k
   result_before xs ys (Err e) h k = error_before xs ys e h k
 
 -- a try-join whose branches give no more than before gives no more
-pub try_before : {C A B X Y E : Type 0} (a : A → Result X E → Type 0) (b : B → Result Y E → Type 0) (f g : TryJoin2 C A B (Result X E) (Result Y E)) → MaybeNarrows a g.a f.a → MaybeNarrows b g.b f.b
+pub try_before : {A B X Y E : Type 0} (a : A → Result X E → Type 0) (b : B → Result Y E → Type 0) (f g : TryJoin2 A B X Y E) → MaybeNarrows a g.a f.a → MaybeNarrows b g.b f.b
     → (r : Result (X × Y) E) → TryJoinGives a b g r → TryJoinGives a b f r
 try_before a b f g first second (Ok p) h = (first (Ok p.0) h.0, second (Ok p.1) h.1)
 try_before a b f g first second (Err e) h = elim h [
@@ -142,6 +142,11 @@ module _ {A B G H X Y : Type 0} (a : A → X → Type 0) (b : B → Y → Type 0
   select_before t narrows first second (Second y) given = (narrows.1 y given.0, subst (λ p. FnReturnsAt h p y true) second given.1)
   select_before t narrows first second Disabled given = tt
 
+-- A predicate that may be called with all that a branch gives may be called with all that it gives later.
+pub tests_fewer : {T P O : Type 0} (gives : T → O → Type 0) (call : Shared P (Bor O × Unit {0}) Bool) (test kept : P) (new old : Branch T)
+    → kept ≡ test → BranchNarrows gives new old → TestsGiven gives call test old → TestsGiven gives call kept new
+tests_fewer gives call test kept new old same narrows tests = rw same (λ shown h. tests shown (narrows shown.now h))
+
 module _ {T O : Type 0} (gives : T → O → Type 0) where
   narrows_branch : (xs ys : List (Branch T)) (k : ℕ) (x : O) → AllZip (BranchNarrows gives) xs ys → BranchGives gives (row.branch_at xs k) x → BranchGives gives (row.branch_at ys k) x
   narrows_branch [] ys k x h given = absurd given
@@ -153,6 +158,9 @@ module _ {T O : Type 0} (gives : T → O → Type 0) where
     pub out_given : (branches : List (Branch T)) (pick : Option (ℕ × O)) → row.PickGives gives call test branches (Ready pick) → row.SelectListGives gives call test branches (row.out_of pick)
     out_given branches (Some (number, x)) given = given
     out_given branches None given = tt
+
+    pub each_fewer : (xs ys : List (Branch T)) → AllZip (BranchNarrows gives) xs ys → row.TestsEach gives call test ys → row.TestsEach gives call test xs
+    each_fewer xs ys h tests = λ number shown given. tests number shown (narrows_branch xs ys number shown.now h given)
 
     pub row_before : (xs ys : List (Branch T)) → AllZip (BranchNarrows gives) xs ys → (out : out.Out O) → row.SelectListGives gives call test xs out → row.SelectListGives gives call test ys out
     row_before xs ys h (pick.Picked number x) given = (narrows_branch xs ys number x h given.0, given.1)

@@ -7,3 +7,4 @@ mod ListEndLemmas
 pub mod ScanLemmas
 mod SuccessLemmas
 pub mod GivesLemmas
+pub mod PollFnLemmas

@@ -65,17 +65,17 @@ if_pending (Ready x) P h is = absurd (cc)
 if_pending Pending P h is = h
 
 module _ {C T O : Type 0} (future : FutureOf T C O) where
-  pub may_append : (xs ys : List (MaybeDone C T O)) → AllMayPoll future xs → AllMayPoll future ys → AllMayPoll future (xs ++ ys)
+  pub may_append : (xs ys : List (MaybeDone T O)) → AllMayPoll future xs → AllMayPoll future ys → AllMayPoll future (xs ++ ys)
   may_append [] ys h k = k
   may_append (x ∷ xs) ys h k = (h.0, may_append xs ys h.1 k)
 
-  pub may_more : (xs : List (MaybeDone C T O)) (i : ℕ) (n : MaybeDone C T O) → i < length xs → AllMayPoll future (take i xs) → MayPoll future n → AllMayPoll future (take (i + 1) (set xs i n))
+  pub may_more : (xs : List (MaybeDone T O)) (i : ℕ) (n : MaybeDone T O) → i < length xs → AllMayPoll future (take i xs) → MayPoll future n → AllMayPoll future (take (i + 1) (set xs i n))
   may_more xs i n less before now = rw (take_more_set xs i n less) (may_append (take i xs) (n ∷ []) before (now, tt))
 
-  pub may_here : (xs : List (MaybeDone C T O)) (i : ℕ) (m : MaybeDone C T O) → i < length xs → m ≡ get_or xs i m → AllMayPoll future (drop i xs) → MayPoll future m
+  pub may_here : (xs : List (MaybeDone T O)) (i : ℕ) (m : MaybeDone T O) → i < length xs → m ≡ get_or xs i m → AllMayPoll future (drop i xs) → MayPoll future m
   may_here xs i m less is h = let all = rw (here xs i m less is) at h in all.0
 
-  pub may_later : (xs : List (MaybeDone C T O)) (i : ℕ) (m n : MaybeDone C T O) → i < length xs → m ≡ get_or xs i m → AllMayPoll future (drop i xs) → AllMayPoll future (drop (i + 1) (set xs i n))
+  pub may_later : (xs : List (MaybeDone T O)) (i : ℕ) (m n : MaybeDone T O) → i < length xs → m ≡ get_or xs i m → AllMayPoll future (drop i xs) → AllMayPoll future (drop (i + 1) (set xs i n))
   may_later xs i m n less is h =
       let all = rw (here xs i m less is) at h in
       rw (drop-set-lt (i + 1) xs i n (omega arith)) all.1
@@ -85,7 +85,7 @@ module _ {C T O : Type 0} (future : FutureOf T C O) where
   not_gone Pending left middle d h = let e = h.0 in cc
 
   -- a branch that was polled may be polled again
-  pub polled_again : (m n : MaybeDone C T O) (c d : C) (pending : Bool) → Advances future m c n d → pending ≡ is_waiting n
+  pub polled_again : (m n : MaybeDone T O) (c d : C) (pending : Bool) → Advances future m c n d → pending ≡ is_waiting n
       → (pending ≡ true → maybe_spent future n ≡ false) → maybe_spent future n ≡ false
   polled_again m (Future g) c d pending advances is again = again is
   polled_again m (Done x) c d pending advances is again = refl
@@ -93,30 +93,30 @@ module _ {C T O : Type 0} (future : FutureOf T C O) where
   polled_again (Done x) Gone c d pending advances is again = absurd (cc)
   polled_again Gone Gone c d pending advances is again = absurd advances
 
-  pub may_from : (xs : List (MaybeDone C T O)) → list_any (maybe_spent future) xs ≡ false → AllCanPoll future xs → AllMayPoll future xs
+  pub may_from : (xs : List (MaybeDone T O)) → list_any (maybe_spent future) xs ≡ false → AllCanPoll future xs → AllMayPoll future xs
   may_from [] h k = tt
   may_from (x ∷ xs) h k = (((neither (maybe_spent future x) _ h).0, k.0), may_from xs (neither (maybe_spent future x) _ h).1 k.1)
 
-  pub can_from : (xs : List (MaybeDone C T O)) → AllMayPoll future xs → AllCanPoll future xs
+  pub can_from : (xs : List (MaybeDone T O)) → AllMayPoll future xs → AllCanPoll future xs
   can_from [] h = tt
   can_from (x ∷ xs) h = (h.0.1, can_from xs h.1)
 
-  pub unspent_from : (xs : List (MaybeDone C T O)) → AllMayPoll future xs → list_any (maybe_spent future) xs ≡ false
+  pub unspent_from : (xs : List (MaybeDone T O)) → AllMayPoll future xs → list_any (maybe_spent future) xs ≡ false
   unspent_from [] h = refl
   unspent_from (x ∷ xs) h = rw h.0.0 (unspent_from xs h.1)
 
-  missing : (xs : List (MaybeDone C T O)) → AllMayPoll future xs → list_any is_none (map output_of xs) ≡ list_any is_waiting xs
+  missing : (xs : List (MaybeDone T O)) → AllMayPoll future xs → list_any is_none (map output_of xs) ≡ list_any is_waiting xs
   missing [] h = refl
   missing (Future f ∷ xs) h = refl
   missing (Done x ∷ xs) h = missing xs h.1
   missing (Gone ∷ xs) h = absurd (cc)
 
-  present : (xs : List (MaybeDone C T O)) → filter_map (λ output. output) (map output_of xs) ≡ filter_map output_of xs
+  present : (xs : List (MaybeDone T O)) → filter_map (λ output. output) (map output_of xs) ≡ filter_map output_of xs
   present [] = refl
   present (x ∷ xs) = ap (λ rest. cons_option (output_of x) rest) (present xs)
 
-  pub joins_waiting : (xs : List (MaybeDone C T O)) → AllMayPoll future xs → list_any is_waiting xs ≡ true → Pending ≡ join_rule (map output_of xs)
+  pub joins_waiting : (xs : List (MaybeDone T O)) → AllMayPoll future xs → list_any is_waiting xs ≡ true → Pending ≡ join_rule (map output_of xs)
   joins_waiting xs h waits = rw (missing xs h, waits) refl
 
-  pub joins_all : (xs : List (MaybeDone C T O)) → AllMayPoll future xs → list_any is_waiting xs ≡ false → Ready (filter_map output_of xs) ≡ join_rule (map output_of xs)
+  pub joins_all : (xs : List (MaybeDone T O)) → AllMayPoll future xs → list_any is_waiting xs ≡ false → Ready (filter_map output_of xs) ≡ join_rule (map output_of xs)
   joins_all xs h waits = rw (missing xs h, waits, present xs) refl

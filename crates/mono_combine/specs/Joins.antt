@@ -23,9 +23,9 @@ module _ {X Y : Type 0} where
 
 module _ {C A B X Y : Type 0} (a : FutureOf A C X) (b : FutureOf B C Y) where
   -- Each branch that is not done is polled once, in the written order, and the rule gives the answer.
-  pub record JoinPolls (f : Join2 C A B X Y) (c : C) (r : Poll (X × Y)) (g : Join2 C A B X Y) (d : C) : Type 0 where
-    pub first : MaybeDone C A X
-    pub second : MaybeDone C B Y
+  pub record JoinPolls (f : Join2 A B X Y) (c : C) (r : Poll (X × Y)) (g : Join2 A B X Y) (d : C) : Type 0 where
+    pub first : MaybeDone A X
+    pub second : MaybeDone B Y
     pub middle : C
     pub a_polled : Advances a f.a c first middle
     pub b_polled : Advances b f.b middle second d
@@ -34,5 +34,5 @@ module _ {C A B X Y : Type 0} (a : FutureOf A C X) (b : FutureOf B C Y) where
     pub ends : OnReady r (g ≡ record { a = Gone; b = Gone })
 
   -- Whether the branches are given up in the written order.
-  abbrev pub JoinCancels : Join2 C A B X Y → C → C → Type 0
+  abbrev pub JoinCancels : Join2 A B X Y → C → C → Type 0
   JoinCancels f c d = (middle : C) × MaybeCancels a f.a c middle × MaybeCancels b f.b middle d

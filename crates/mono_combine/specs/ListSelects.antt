@@ -13,7 +13,7 @@ use Rattle.mono_combine.specs.declared.pick.Out as out
 use Rattle.mono_combine.specs.declared.pick.Out.TheVariants.{Picked, Disabled}
 use Rattle.mono_combine.specs.declared.start.Start.{Start}
 use Rattle.mono_combine.specs.BranchLists.{EachInTurn}
-use Rattle.mono_combine.specs.Looks.{is_out, branch_spent, BranchCanPoll, BranchCancels, BranchGives, ReturnsFor, HasTurnAt}
+use Rattle.mono_combine.specs.Looks.{is_out, branch_spent, BranchCanPoll, BranchCancels, BranchGives, TestsGivenAt, ReturnsFor, HasTurnAt}
 use Rattle.mono_combine.specs.Rules.{look_at, select_rule, select_turns}
 use Rattle.mono_combine.specs.Selects.{left_out_if}
 use Rattle.mono_combine.specs.Starts.{start_of}
@@ -51,6 +51,10 @@ module _ {T G O : Type 0} (gives : T → O → Type 0) (call : Shared G (ℕ × 
   PickGives (Ready (Some (number, x))) = BranchGives gives (branch_at branches number) x × ReturnsFor call test number x true
   PickGives (Ready None) = ⊤
   PickGives Pending = ⊤
+
+-- Whether the predicate may be called with each branch's number and a `&` to each output that the branch may give.
+abbrev pub TestsEach : {T G O : Type 0} → (T → O → Type 0) → Shared G (ℕ × (Bor O × Unit {0})) Bool → G → List (Branch T) → Type 0
+TestsEach gives call test branches = (number : ℕ) → TestsGivenAt gives call test number (branch_at branches number)
 
 module _ {T C O : Type 0} (future : FutureOf T C O) where
   -- Whether the branch may have its turn.

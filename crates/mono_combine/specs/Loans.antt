@@ -6,5 +6,5 @@ use Rattle.mono_combine.specs.declared.maybe.MaybeDone.{MaybeDone}
 use Rattle.mono_combine.specs.declared.maybe.MaybeDone.TheVariants.{Done}
 
 -- Whether it ends with the output last written through r, or as it was.
-abbrev pub LendsOutput : (C Fut O : RattleType) → MutBor (MaybeDone C.Denot Fut.Denot O.Denot) → Option (MutBor O.Denot) → Fml
-LendsOutput C Fut O m r = LendsIf (the_row C Fut O) O m r (λ x. Done x) m.now
+abbrev pub LendsOutput : (Fut O : RattleType) → MutBor (MaybeDone Fut.Denot O.Denot) → Option (MutBor O.Denot) → Fml
+LendsOutput Fut O m r = LendsIf (the_row Fut O) O m r (λ x. Done x) m.now

@@ -44,6 +44,14 @@ BranchGives gives Gone x = ⊥
 abbrev pub BranchNarrows : {T O : Type 0} → (T → O → Type 0) → Branch T → Branch T → Type 0
 BranchNarrows {T} {O} gives b' b = (x : O) → BranchGives gives b' x → BranchGives gives b x
 
+-- Whether the predicate may be called with a `&` to each output that the branch may give.
+abbrev pub TestsGiven : {T P O : Type 0} → (T → O → Type 0) → Shared P (Bor O × Unit {0}) Bool → P → Branch T → Type 0
+TestsGiven {T} {P} {O} gives call test b = (shown : Bor O) → BranchGives gives b shown.now → call.pre test (shown, tt)
+
+-- The same for a predicate that sees the branch's number, too.
+abbrev pub TestsGivenAt : {T P O : Type 0} → (T → O → Type 0) → Shared P (ℕ × (Bor O × Unit {0})) Bool → P → ℕ → Branch T → Type 0
+TestsGivenAt {T} {P} {O} gives call test number b = (shown : Bor O) → BranchGives gives b shown.now → call.pre test (number, (shown, tt))
+
 -- Whether an output that passes is an output that the branch gives, and passes.
 abbrev pub LookGives : {T O : Type 0} → (T → O → Type 0) → (O → Type 0) → Branch T → Look O → Type 0
 LookGives gives is_passed b (Passes x) = BranchGives gives b x × is_passed x

@@ -13,11 +13,11 @@ use Rattle.mono_combine.specs.Branches.{Advances, MaybeCancels, MaybeGives, outp
 use Rattle.mono_combine.specs.Rules.{error_of, try_join_rule}
 
 -- The error or the value of a branch.
-abbrev pub failure_of : {C Fut X E : Type 0} → MaybeDone C Fut (Result X E) → Option E
+abbrev pub failure_of : {Fut X E : Type 0} → MaybeDone Fut (Result X E) → Option E
 failure_of m = error_of (output_of m)
 
 -- The branch after its error, if it has one, was taken.
-abbrev pub without_failure : {C Fut X E : Type 0} → MaybeDone C Fut (Result X E) → MaybeDone C Fut (Result X E)
+abbrev pub without_failure : {Fut X E : Type 0} → MaybeDone Fut (Result X E) → MaybeDone Fut (Result X E)
 without_failure (Future f) = Future f
 without_failure (Done (Ok x)) = Done (Ok x)
 without_failure (Done (Err e)) = Gone
@@ -42,25 +42,25 @@ module _ {X Y E : Type 0} where
   as_result_list Pending = Pending
 
 -- Both values, or an error that a branch may still give or has given.
-abbrev pub TryJoinGives : {C A B X Y E : Type 0} → (A → Result X E → Type 0) → (B → Result Y E → Type 0) → TryJoin2 C A B (Result X E) (Result Y E) → Result (X × Y) E → Type 0
+abbrev pub TryJoinGives : {A B X Y E : Type 0} → (A → Result X E → Type 0) → (B → Result Y E → Type 0) → TryJoin2 A B X Y E → Result (X × Y) E → Type 0
 TryJoinGives a b f (Ok p) = MaybeGives a f.a (Ok p.0) × MaybeGives b f.b (Ok p.1)
 TryJoinGives a b f (Err e) = MaybeGives a f.a (Err e) ⊎ MaybeGives b f.b (Err e)
 
 -- Whether a branch is polled unless a branch before it has failed.
-abbrev pub AdvancesUnless : {C Fut O : Type 0} → FutureOf Fut C O → Bool → MaybeDone C Fut O → C → MaybeDone C Fut O → C → Type 0
+abbrev pub AdvancesUnless : {C Fut O : Type 0} → FutureOf Fut C O → Bool → MaybeDone Fut O → C → MaybeDone Fut O → C → Type 0
 AdvancesUnless future true m c n d = (n ≡ m) × (d ≡ c)
 AdvancesUnless future false m c n d = Advances future m c n d
 
 module _ {C A B X Y E : Type 0} (a : FutureOf A C (Result X E)) (b : FutureOf B C (Result Y E)) where
   -- Whether the branches that remain are given up in the written order.
-  abbrev pub BothCancel : MaybeDone C A (Result X E) → MaybeDone C B (Result Y E) → C → C → Type 0
+  abbrev pub BothCancel : MaybeDone A (Result X E) → MaybeDone B (Result Y E) → C → C → Type 0
   BothCancel first second c d = (middle : C) × MaybeCancels a first c middle × MaybeCancels b second middle d
 
   -- Each branch that is not done is polled once, in the written order, up to the first that fails, and the rule gives
   -- the answer. Once it has answered, the unfinished branches are given up in the written order.
-  pub record TryJoinPolls (f : TryJoin2 C A B (Result X E) (Result Y E)) (c : C) (r : Poll (Result (X × Y) E)) (g : TryJoin2 C A B (Result X E) (Result Y E)) (d : C) : Type 0 where
-    pub first : MaybeDone C A (Result X E)
-    pub second : MaybeDone C B (Result Y E)
+  pub record TryJoinPolls (f : TryJoin2 A B X Y E) (c : C) (r : Poll (Result (X × Y) E)) (g : TryJoin2 A B X Y E) (d : C) : Type 0 where
+    pub first : MaybeDone A (Result X E)
+    pub second : MaybeDone B (Result Y E)
     pub between : C
     pub after : C
     pub a_polled : Advances a f.a c first between
@@ -69,5 +69,5 @@ module _ {C A B X Y E : Type 0} (a : FutureOf A C (Result X E)) (b : FutureOf B 
     pub waits : OnPending r ((g ≡ record { a = first; b = second }) × (d ≡ after))
     pub ends : OnReady r ((g ≡ record { a = Gone; b = Gone }) × BothCancel first second after d)
 
-  abbrev pub TryJoinCancels : TryJoin2 C A B (Result X E) (Result Y E) → C → C → Type 0
+  abbrev pub TryJoinCancels : TryJoin2 A B X Y E → C → C → Type 0
   TryJoinCancels f c d = BothCancel f.a f.b c d

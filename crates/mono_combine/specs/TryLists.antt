@@ -13,11 +13,11 @@ use Rattle.mono_combine.specs.Rules.{try_join_rule}
 use Rattle.mono_combine.specs.TryJoins.{failure_of, AdvancesUnless}
 
 -- Whether the branch has failed.
-abbrev pub has_failed : {C T X E : Type 0} → MaybeDone C T (Result X E) → Bool
+abbrev pub has_failed : {T X E : Type 0} → MaybeDone T (Result X E) → Bool
 has_failed m = is_some (failure_of m)
 
 -- The value of a branch.
-abbrev pub value_in : {C T X E : Type 0} → MaybeDone C T (Result X E) → Option X
+abbrev pub value_in : {T X E : Type 0} → MaybeDone T (Result X E) → Option X
 value_in (Future f) = None
 value_in (Done (Ok x)) = Some x
 value_in (Done (Err e)) = None
@@ -34,39 +34,39 @@ earlier None later = later
 earlier (Some e) later = Some e
 
 -- The first error among the branches.
-abbrev pub first_failure : {C T X E : Type 0} → List (MaybeDone C T (Result X E)) → Option E
+abbrev pub first_failure : {T X E : Type 0} → List (MaybeDone T (Result X E)) → Option E
 first_failure [] = None
 first_failure (m ∷ ms) = earlier (failure_of m) (first_failure ms)
 
-module _ {C T X E : Type 0} (gives : T → Result X E → Type 0) where
+module _ {T X E : Type 0} (gives : T → Result X E → Type 0) where
   -- Whether the branch gives the value.
-  abbrev pub GivesValue : MaybeDone C T (Result X E) → X → Type 0
+  abbrev pub GivesValue : MaybeDone T (Result X E) → X → Type 0
   GivesValue m x = MaybeGives gives m (Ok x)
 
   -- Whether one of the branches gives the error.
-  abbrev pub OneFails : List (MaybeDone C T (Result X E)) → E → Type 0
+  abbrev pub OneFails : List (MaybeDone T (Result X E)) → E → Type 0
   OneFails [] e = ⊥
   OneFails (m ∷ ms) e = MaybeGives gives m (Err e) ⊎ OneFails ms e
 
   -- A value of each branch, or an error of one of them.
-  abbrev pub TryJoinListGives : List (MaybeDone C T (Result X E)) → Result (List X) E → Type 0
+  abbrev pub TryJoinListGives : List (MaybeDone T (Result X E)) → Result (List X) E → Type 0
   TryJoinListGives branches (Ok xs) = AllZip GivesValue branches xs
   TryJoinListGives branches (Err e) = OneFails branches e
 
 module _ {C T X E : Type 0} (future : FutureOf T C (Result X E)) where
   -- The turn of a branch: it is polled unless a branch before it has failed.
-  pub record TriesOnce (m : MaybeDone C T (Result X E)) (s : Trying C) (n : MaybeDone C T (Result X E)) (t : Trying C) : Type 0 where
+  pub record TriesOnce (m : MaybeDone T (Result X E)) (s : Trying C) (n : MaybeDone T (Result X E)) (t : Trying C) : Type 0 where
     pub advanced : AdvancesUnless future s.one_failed m s.cx n t.cx
     pub failed : t.one_failed ≡ (s.one_failed || has_failed n)
 
   -- The branches have their turns in the written order, up to the first that fails.
-  abbrev pub TriesEach : List (MaybeDone C T (Result X E)) → C → List (MaybeDone C T (Result X E)) → Bool → C → Type 0
+  abbrev pub TriesEach : List (MaybeDone T (Result X E)) → C → List (MaybeDone T (Result X E)) → Bool → C → Type 0
   TriesEach branches c polled one_failed d = EachInTurn TriesOnce branches (record { one_failed = false; cx = c }) polled (record { one_failed = one_failed; cx = d })
 
   -- Each branch that is not done is polled once, in the written order, up to the first that fails, and the rule gives
   -- the answer. Once it has answered, the unfinished branches are given up in the written order, and none remains.
-  pub record TryJoinListPolls (branches : List (MaybeDone C T (Result X E))) (c : C) (r : Poll (Result (List X) E)) (left : List (MaybeDone C T (Result X E))) (has_answered : Bool) (d : C) : Type 0 where
-    pub polled : List (MaybeDone C T (Result X E))
+  pub record TryJoinListPolls (branches : List (MaybeDone T (Result X E))) (c : C) (r : Poll (Result (List X) E)) (left : List (MaybeDone T (Result X E))) (has_answered : Bool) (d : C) : Type 0 where
+    pub polled : List (MaybeDone T (Result X E))
     pub one_failed : Bool
     pub after : C
     pub turns : TriesEach branches c polled one_failed after

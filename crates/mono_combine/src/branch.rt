@@ -1,7 +1,7 @@
 // A branch of a select.
 ghost use Rattle.std.specs.Prelude.{◌≡◌, false, true};
 ghost use Rattle.std.specs.Fn.{FnReturnsAt};
-ghost use Rattle.mono_combine.specs.Looks.{is_out, branch_spent, BranchCanPoll, BranchCancels, BranchNarrows, LookGives, HasTurn};
+ghost use Rattle.mono_combine.specs.Looks.{is_out, branch_spent, BranchCanPoll, BranchCancels, BranchNarrows, LookGives, TestsGiven, HasTurn};
 ghost use Rattle.mono_combine.specs.Rules.{unless_masked};
 ghost use Rattle.mono_combine.specs.Selects.{left_out_if};
 
@@ -69,7 +69,7 @@ impl<T> Branch<T> {
         P: Fn(&T::Output) -> bool,
         requires unspent { branch_spent T.TaskFuture self.old ≡ false }
         requires callable { BranchCanPoll T.TaskFuture self.old }
-        requires test { P.IsAlwaysCallable test.now }
+        requires test { TestsGiven T.gives P.Fn test.now self.old }
         ensures turn { HasTurn T.TaskFuture P.Fn test.now self.old cx.old result self.new cx.new }
         ensures counts { unless_masked (is_out self.old) result ≡ result }
         ensures unspent { branch_spent T.TaskFuture self.new ≡ false }

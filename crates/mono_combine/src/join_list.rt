@@ -1,6 +1,6 @@
 // Many branches that are polled until all outputs are there.
 ghost use Rattle.std.specs.Prelude.{◌≡◌, ◌≤◌, ◌||◌, false, true, [], map, vec_len, vec_capacity, IfOk, IfErr};
-ghost use Rattle.std.specs.List.{list_any, All, AllZip};
+ghost use Rattle.std.specs.List.{list_any, AllZip};
 ghost use Rattle.mono_combine.specs.Branches.{maybe_spent, MaybeGives};
 ghost use Rattle.mono_combine.specs.BranchLists.{AllCanPoll, JoinListPolls, AllCancel, answer_as};
 
@@ -16,20 +16,19 @@ use std::mem;
 /// It returns all outputs in the written order once all have been given (`join_rule`), and is spent from then on. `new`
 /// reserves the room for the outputs, so no poll is out of memory.
 #[derive(Drop)]
-pub struct JoinList<C: Context, T: TaskFuture<C>> {
-    branches: Vec<MaybeDone<C, T>>,
-    outputs: Vec<T::Output>,
+pub struct JoinList<T, X> {
+    branches: Vec<MaybeDone<T, X>>,
+    outputs: Vec<X>,
     has_answered: bool,
     ghost no_outputs: { outputs.items ≡ [] },
     ghost room: { vec_len branches ≤ vec_capacity outputs },
 }
 
-impl<C: Context, T: TaskFuture<C, Output: Drop>> JoinList<C, T> {
+impl<T: Drop, X: Drop> JoinList<T, X> {
     /// Returns the join of at most 64 futures that are not spent. The futures come back only if the call is out of
     /// memory.
-    pub fn new(alloc: Global, v: Vec<T>) -> Result<JoinList<C, T>, Vec<T>>
+    pub fn new(alloc: Global, v: Vec<T>) -> Result<JoinList<T, X>, Vec<T>>
         requires few { vec_len v ≤ 64 }
-        requires unspent { All (λ f. T.is_spent f ≡ false) v.items }
         ensures made { IfOk result (λ form. form.branches.items ≡ map MaybeDone.Future v.items) }
         ensures fresh { IfOk result (λ form. form.has_answered ≡ false) }
         ensures handed_back { IfErr result (λ back. back ≡ v) }
@@ -49,8 +48,8 @@ impl<C: Context, T: TaskFuture<C, Output: Drop>> JoinList<C, T> {
     }
 }
 
-impl<C: Context, T: TaskFuture<C, Output: Drop>> TaskFuture<C> for JoinList<C, T> {
-    type Output = Vec<T::Output>;
+impl<C: Context, X: Drop, T: TaskFuture<C, Output = X>> TaskFuture<C> for JoinList<T, X> {
+    type Output = Vec<X>;
 
     ghost is_spent = { λ f. f.has_answered || list_any (maybe_spent T.TaskFuture) f.branches.items };
 
@@ -66,7 +65,7 @@ impl<C: Context, T: TaskFuture<C, Output: Drop>> TaskFuture<C> for JoinList<C, T
         self.has_answered || any_spent(&self.branches)
     }
 
-    fn poll<R: Host>(&mut self, rt: &R, alloc: Global, cx: &mut C) -> Poll<Vec<T::Output>> {
+    fn poll<R: Host>(&mut self, rt: &R, alloc: Global, cx: &mut C) -> Poll<Vec<X>> {
         if poll_each(rt, alloc, cx, &mut self.branches) {
             return Poll::Pending;
         }

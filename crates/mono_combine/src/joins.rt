@@ -1,5 +1,5 @@
 // Two branches that are polled until both outputs are there.
-ghost use Rattle.std.specs.Prelude.{◌≡◌, ◌||◌, false};
+ghost use Rattle.std.specs.Prelude.{◌≡◌, ◌||◌};
 ghost use Rattle.mono_combine.specs.Branches.{maybe_spent, MaybeCanPoll, MaybeGives};
 ghost use Rattle.mono_combine.specs.Joins.{JoinPolls, JoinCancels};
 
@@ -12,16 +12,14 @@ use std::alloc::Global;
 ///
 /// It returns both outputs once both have been given (`join_rule`), and is spent from then on.
 #[derive(Drop)]
-pub struct Join2<C: Context, A: TaskFuture<C>, B: TaskFuture<C>> {
-    a: MaybeDone<C, A>,
-    b: MaybeDone<C, B>,
+pub struct Join2<A, B, X, Y> {
+    a: MaybeDone<A, X>,
+    b: MaybeDone<B, Y>,
 }
 
-impl<C: Context, A: TaskFuture<C>, B: TaskFuture<C>> Join2<C, A, B> {
+impl<A, B, X, Y> Join2<A, B, X, Y> {
     /// Returns the join of two futures that are not spent.
-    pub fn new(a: A, b: B) -> Join2<C, A, B>
-        requires a { A.is_spent a ≡ false }
-        requires b { B.is_spent b ≡ false }
+    pub fn new(a: A, b: B) -> Join2<A, B, X, Y>
         ensures a { result.a ≡ MaybeDone.Future a }
         ensures b { result.b ≡ MaybeDone.Future b }
     {
@@ -32,13 +30,15 @@ impl<C: Context, A: TaskFuture<C>, B: TaskFuture<C>> Join2<C, A, B> {
     }
 }
 
-impl<C, A, B> TaskFuture<C> for Join2<C, A, B>
+impl<C, A, B, X, Y> TaskFuture<C> for Join2<A, B, X, Y>
 where
     C: Context,
-    A: TaskFuture<C, Output: Drop>,
-    B: TaskFuture<C, Output: Drop>,
+    A: TaskFuture<C, Output = X>,
+    B: TaskFuture<C, Output = Y>,
+    X: Drop,
+    Y: Drop,
 {
-    type Output = (A::Output, B::Output);
+    type Output = (X, Y);
 
     ghost is_spent = { λ f. maybe_spent A.TaskFuture f.a || maybe_spent B.TaskFuture f.b };
 
@@ -54,7 +54,7 @@ where
         self.a.spent() || self.b.spent()
     }
 
-    fn poll<R: Host>(&mut self, rt: &R, alloc: Global, cx: &mut C) -> Poll<Self::Output> {
+    fn poll<R: Host>(&mut self, rt: &R, alloc: Global, cx: &mut C) -> Poll<(X, Y)> {
         let first = self.a.poll(rt, alloc, cx);
         let second = self.b.poll(rt, alloc, cx);
         if first.is_pending() || second.is_pending() {

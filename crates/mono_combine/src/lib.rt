@@ -25,11 +25,14 @@ pub use join_list::JoinList;
 pub use joins::Join2;
 pub use maybe::{MaybeDone, maybe_done};
 pub use mono_model::FastRand;
-pub use nests::{join3, join4, join5};
+pub use nests::{
+    Join3, Join4, Join5, TryJoin3, TryJoin4, TryJoin5, join3, join4, join5, try_join3, try_join4,
+    try_join5,
+};
 pub use pick::Out;
 pub use poll_fns::{PollFn, poll_fn};
 pub use select::{Out2, Select2};
 pub use select_list::SelectList;
 pub use start::Start;
-pub use try_join_list::{Fallible, TryJoinList};
+pub use try_join_list::TryJoinList;
 pub use try_joins::TryJoin2;

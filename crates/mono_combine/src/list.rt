@@ -12,9 +12,9 @@ use std::alloc::Global;
 use std::vec;
 
 // Appends the futures to the branches, which have the room for them.
-pub(crate) fn fill<C: Context, T: TaskFuture<C, Output: Drop>>(
+pub(crate) fn fill<T: Drop, X: Drop>(
     mut futures: vec::IntoIter<T>,
-    branches: &mut Vec<MaybeDone<C, T>>,
+    branches: &mut Vec<MaybeDone<T, X>>,
 )
     requires { vec_len branches.old + into_iter_len futures ≤ vec_capacity branches.old }
     ensures { branches.new.items ≡ branches.old.items ++ map MaybeDone.Future (into_iter_items futures) }
@@ -28,8 +28,8 @@ pub(crate) fn fill<C: Context, T: TaskFuture<C, Output: Drop>>(
 
 // Returns whether a branch is spent. It takes the vector, since a form over results cannot borrow it as a slice from a
 // `&self`.
-pub(crate) fn any_spent<C: Context, T: TaskFuture<C, Output: Drop>>(
-    branches: &Vec<MaybeDone<C, T>>,
+pub(crate) fn any_spent<C: Context, X: Drop, T: TaskFuture<C, Output = X>>(
+    branches: &Vec<MaybeDone<T, X>>,
 ) -> bool
     ensures { result ≡ list_any (maybe_spent T.TaskFuture) branches.now.items }
 {
@@ -42,11 +42,11 @@ pub(crate) fn any_spent<C: Context, T: TaskFuture<C, Output: Drop>>(
 }
 
 // Polls each branch once, in the written order. Returns true if one of them waits.
-pub(crate) fn poll_each<R: Host, C: Context, T: TaskFuture<C, Output: Drop>>(
+pub(crate) fn poll_each<R: Host, C: Context, X: Drop, T: TaskFuture<C, Output = X>>(
     rt: &R,
     alloc: Global,
     cx: &mut C,
-    branches: &mut Vec<MaybeDone<C, T>>,
+    branches: &mut Vec<MaybeDone<T, X>>,
 ) -> bool
     requires { AllMayPoll T.TaskFuture branches.old.items }
     ensures polled { EachInTurn (Advances T.TaskFuture) branches.old.items cx.old branches.new.items cx.new }
@@ -66,9 +66,9 @@ pub(crate) fn poll_each<R: Host, C: Context, T: TaskFuture<C, Output: Drop>>(
 }
 
 // Gives up each branch that remains, in the written order.
-pub(crate) fn give_up_each<C: Context, T: TaskFuture<C, Output: Drop>>(
+pub(crate) fn give_up_each<C: Context, X: Drop, T: TaskFuture<C, Output = X>>(
     cx: &mut C,
-    branches: &mut Vec<MaybeDone<C, T>>,
+    branches: &mut Vec<MaybeDone<T, X>>,
 )
     ensures given_up { EachInTurn (GivesUp T.TaskFuture) branches.old.items cx.old branches.new.items cx.new }
     ensures reached { C.reaches cx.old cx.new }
@@ -79,9 +79,9 @@ pub(crate) fn give_up_each<C: Context, T: TaskFuture<C, Output: Drop>>(
 }
 
 // Moves the outputs, in the written order, to a vector that has the room for them.
-pub(crate) fn collect<C: Context, T: TaskFuture<C, Output: Drop>>(
-    mut branches: vec::IntoIter<MaybeDone<C, T>>,
-    outputs: &mut Vec<T::Output>,
+pub(crate) fn collect<T: Drop, X: Drop>(
+    mut branches: vec::IntoIter<MaybeDone<T, X>>,
+    outputs: &mut Vec<X>,
 )
     requires { vec_len outputs.old + into_iter_len branches ≤ vec_capacity outputs.old }
     ensures { outputs.new.items ≡ outputs.old.items ++ filter_map output_of (into_iter_items branches) }

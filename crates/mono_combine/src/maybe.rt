@@ -13,29 +13,31 @@ use std::mem;
 
 /// A future, or the output that it gave until that is taken.
 ///
+/// The type names the output and no context, since a runtime's context names its future.
+///
 /// It is spent if and only if the output was taken or it holds a future that is spent.
 #[derive(Drop)]
-pub enum MaybeDone<C: Context, Fut: TaskFuture<C>> {
+pub enum MaybeDone<Fut, X> {
     /// The future has not answered.
     Future(Fut),
     /// The future has answered, and was given up at once.
-    Done(Fut::Output),
+    Done(X),
     /// The output was taken.
     Gone,
 }
 
 /// Returns a future that keeps its output.
-pub fn maybe_done<C: Context, Fut: TaskFuture<C>>(future: Fut) -> MaybeDone<C, Fut>
+pub fn maybe_done<Fut, X>(future: Fut) -> MaybeDone<Fut, X>
     ensures { result ≡ MaybeDone.Future future }
 {
     MaybeDone::Future(future)
 }
 
-impl<C: Context, Fut: TaskFuture<C, Output: Drop>> MaybeDone<C, Fut> {
+impl<Fut: Drop, X: Drop> MaybeDone<Fut, X> {
     /// Returns the output if the future has answered.
-    pub fn output_mut(&mut self) -> Option<&mut Fut::Output>
+    pub fn output_mut(&mut self) -> Option<&mut X>
         ensures value { option_copied_mut result ≡ output_of self.old }
-        ensures* writes_back { sem 𝓛 (LendsOutput C.row Fut.row Fut.Output.row self.entry result) }
+        ensures* writes_back { sem 𝓛 (LendsOutput Fut.row X.row self.entry result) }
     {
         match self {
             MaybeDone::Done(output) => Some(output),
@@ -44,7 +46,7 @@ impl<C: Context, Fut: TaskFuture<C, Output: Drop>> MaybeDone<C, Fut> {
     }
 
     /// Removes and returns the output, if the future has answered; otherwise nothing changes.
-    pub fn take_output(&mut self) -> Option<Fut::Output>
+    pub fn take_output(&mut self) -> Option<X>
         ensures output { result ≡ output_of self.old }
         ensures left { self.new ≡ without_output self.old }
     {
@@ -59,7 +61,9 @@ impl<C: Context, Fut: TaskFuture<C, Output: Drop>> MaybeDone<C, Fut> {
     }
 
     // Removes and returns the output; the future has answered.
-    pub(crate) fn take_done(&mut self) -> Fut::Output
+    pub(crate) fn take_done<C: Context>(&mut self) -> X
+    where
+        Fut: TaskFuture<C, Output = X>,
         requires unspent { maybe_spent Fut.TaskFuture self.old ≡ false }
         requires done { is_waiting self.old ≡ false }
         ensures output { self.old ≡ MaybeDone.Done result }
@@ -83,7 +87,9 @@ impl<C: Context, Fut: TaskFuture<C, Output: Drop>> MaybeDone<C, Fut> {
     }
 
     // Gives up the future that remains.
-    pub(crate) fn give_up(&mut self, cx: &mut C)
+    pub(crate) fn give_up<C: Context>(&mut self, cx: &mut C)
+    where
+        Fut: TaskFuture<C, Output = X>,
         ensures gone { self.new ≡ MaybeDone.Gone }
         ensures cancelled { MaybeCancels Fut.TaskFuture self.old cx.old cx.new }
         ensures reached { C.reaches cx.old cx.new }
@@ -94,7 +100,7 @@ impl<C: Context, Fut: TaskFuture<C, Output: Drop>> MaybeDone<C, Fut> {
 
 /// A poll polls the future until that has answered, and returns `Ready` from then on. The output stays until it is
 /// taken.
-impl<C: Context, Fut: TaskFuture<C, Output: Drop>> TaskFuture<C> for MaybeDone<C, Fut> {
+impl<C: Context, X: Drop, Fut: TaskFuture<C, Output = X>> TaskFuture<C> for MaybeDone<Fut, X> {
     type Output = ();
 
     ghost is_spent = { maybe_spent Fut.TaskFuture };

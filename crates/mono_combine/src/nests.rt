@@ -1,22 +1,28 @@
-// Joins of three to five unlike futures. Each is the join of two, nested to the left, so it polls and gives up its
-// parts in the written order.
-ghost use Rattle.std.specs.Prelude.{◌≡◌, false};
+// Joins and try-joins of three to five unlike futures. Each is the form of two, nested to the left, so it polls and gives
+// up its parts in the written order.
+ghost use Rattle.std.specs.Prelude.{◌≡◌};
 
 use crate::joins::Join2;
 use crate::maybe::MaybeDone;
-use mono_task::{Context, TaskFuture};
+use crate::try_joins::TryJoin2;
+
+/// A join of three unlike futures.
+pub type Join3<A, B, D, X, Y, Z> = Join2<Join2<A, B, X, Y>, D, (X, Y), Z>;
+
+/// A join of four unlike futures.
+pub type Join4<A, B, D, E, X, Y, Z, U> = Join2<Join3<A, B, D, X, Y, Z>, E, ((X, Y), Z), U>;
+
+/// A join of five unlike futures.
+pub type Join5<A, B, D, E, F, X, Y, Z, U, V> = Join2<
+    Join4<A, B, D, E, X, Y, Z, U>,
+    F,
+    (((X, Y), Z), U),
+    V,
+>;
 
 /// Returns the join of three unlike futures that are not spent. Each poll polls every unfinished one once, in the
 /// written order.
-pub fn join3<C, A, B, D>(a: A, b: B, d: D) -> Join2<C, Join2<C, A, B>, D>
-where
-    C: Context,
-    A: TaskFuture<C, Output: Drop>,
-    B: TaskFuture<C, Output: Drop>,
-    D: TaskFuture<C, Output: Drop>,
-    requires a { A.is_spent a ≡ false }
-    requires b { B.is_spent b ≡ false }
-    requires d { D.is_spent d ≡ false }
+pub fn join3<A, B, D, X, Y, Z>(a: A, b: B, d: D) -> Join3<A, B, D, X, Y, Z>
     ensures { result ≡ record { a = MaybeDone.Future (record { a = MaybeDone.Future a; b = MaybeDone.Future b }); b = MaybeDone.Future d } }
 {
     Join2::new(Join2::new(a, b), d)
@@ -24,17 +30,7 @@ where
 
 /// Returns the join of four unlike futures that are not spent. Each poll polls every unfinished one once, in the
 /// written order.
-pub fn join4<C, A, B, D, E>(a: A, b: B, d: D, e: E) -> Join2<C, Join2<C, Join2<C, A, B>, D>, E>
-where
-    C: Context,
-    A: TaskFuture<C, Output: Drop>,
-    B: TaskFuture<C, Output: Drop>,
-    D: TaskFuture<C, Output: Drop>,
-    E: TaskFuture<C, Output: Drop>,
-    requires a { A.is_spent a ≡ false }
-    requires b { B.is_spent b ≡ false }
-    requires d { D.is_spent d ≡ false }
-    requires e { E.is_spent e ≡ false }
+pub fn join4<A, B, D, E, X, Y, Z, U>(a: A, b: B, d: D, e: E) -> Join4<A, B, D, E, X, Y, Z, U>
     ensures { result ≡ record { a = MaybeDone.Future (record { a = MaybeDone.Future (record { a = MaybeDone.Future a; b = MaybeDone.Future b }); b = MaybeDone.Future d }); b = MaybeDone.Future e } }
 {
     Join2::new(join3(a, b, d), e)
@@ -42,26 +38,70 @@ where
 
 /// Returns the join of five unlike futures that are not spent. Each poll polls every unfinished one once, in the
 /// written order.
-pub fn join5<C, A, B, D, E, F>(
+pub fn join5<A, B, D, E, F, X, Y, Z, U, V>(
     a: A,
     b: B,
     d: D,
     e: E,
     f: F,
-) -> Join2<C, Join2<C, Join2<C, Join2<C, A, B>, D>, E>, F>
-where
-    C: Context,
-    A: TaskFuture<C, Output: Drop>,
-    B: TaskFuture<C, Output: Drop>,
-    D: TaskFuture<C, Output: Drop>,
-    E: TaskFuture<C, Output: Drop>,
-    F: TaskFuture<C, Output: Drop>,
-    requires a { A.is_spent a ≡ false }
-    requires b { B.is_spent b ≡ false }
-    requires d { D.is_spent d ≡ false }
-    requires e { E.is_spent e ≡ false }
-    requires f { F.is_spent f ≡ false }
+) -> Join5<A, B, D, E, F, X, Y, Z, U, V>
     ensures { result ≡ record { a = MaybeDone.Future (record { a = MaybeDone.Future (record { a = MaybeDone.Future (record { a = MaybeDone.Future a; b = MaybeDone.Future b }); b = MaybeDone.Future d }); b = MaybeDone.Future e }); b = MaybeDone.Future f } }
 {
     Join2::new(join4(a, b, d, e), f)
+}
+
+/// A join of three unlike futures that may fail with one type of error.
+pub type TryJoin3<A, B, D, X, Y, Z, E> = TryJoin2<TryJoin2<A, B, X, Y, E>, D, (X, Y), Z, E>;
+
+/// A join of four unlike futures that may fail with one type of error.
+pub type TryJoin4<A, B, D, F, X, Y, Z, U, E> = TryJoin2<
+    TryJoin3<A, B, D, X, Y, Z, E>,
+    F,
+    ((X, Y), Z),
+    U,
+    E,
+>;
+
+/// A join of five unlike futures that may fail with one type of error.
+pub type TryJoin5<A, B, D, F, G, X, Y, Z, U, V, E> = TryJoin2<
+    TryJoin4<A, B, D, F, X, Y, Z, U, E>,
+    G,
+    (((X, Y), Z), U),
+    V,
+    E,
+>;
+
+/// Returns the join of three unlike futures that are not spent. Each poll polls every unfinished one once, in the
+/// written order, up to the first that fails.
+pub fn try_join3<A, B, D, X, Y, Z, E>(a: A, b: B, d: D) -> TryJoin3<A, B, D, X, Y, Z, E>
+    ensures { result ≡ record { a = MaybeDone.Future (record { a = MaybeDone.Future a; b = MaybeDone.Future b }); b = MaybeDone.Future d } }
+{
+    TryJoin2::new(TryJoin2::new(a, b), d)
+}
+
+/// Returns the join of four unlike futures that are not spent. Each poll polls every unfinished one once, in the
+/// written order, up to the first that fails.
+pub fn try_join4<A, B, D, F, X, Y, Z, U, E>(
+    a: A,
+    b: B,
+    d: D,
+    f: F,
+) -> TryJoin4<A, B, D, F, X, Y, Z, U, E>
+    ensures { result ≡ record { a = MaybeDone.Future (record { a = MaybeDone.Future (record { a = MaybeDone.Future a; b = MaybeDone.Future b }); b = MaybeDone.Future d }); b = MaybeDone.Future f } }
+{
+    TryJoin2::new(try_join3(a, b, d), f)
+}
+
+/// Returns the join of five unlike futures that are not spent. Each poll polls every unfinished one once, in the
+/// written order, up to the first that fails.
+pub fn try_join5<A, B, D, F, G, X, Y, Z, U, V, E>(
+    a: A,
+    b: B,
+    d: D,
+    f: F,
+    g: G,
+) -> TryJoin5<A, B, D, F, G, X, Y, Z, U, V, E>
+    ensures { result ≡ record { a = MaybeDone.Future (record { a = MaybeDone.Future (record { a = MaybeDone.Future (record { a = MaybeDone.Future a; b = MaybeDone.Future b }); b = MaybeDone.Future d }); b = MaybeDone.Future f }); b = MaybeDone.Future g } }
+{
+    TryJoin2::new(try_join4(a, b, d, f), g)
 }

@@ -1,7 +1,7 @@
 // A closure as a future.
 ghost use Rattle.std.specs.Prelude.{◌≡◌, false};
 ghost use Rattle.std.specs.Fn.{CalledAtMut};
-ghost use Rattle.mono_combine.specs.PollFns.{CallGives, StaysReached};
+ghost use Rattle.mono_combine.specs.PollFns.{CallGives, StaysCallable};
 
 use mono_model::{Host, Poll};
 use mono_task::{Context, TaskFuture};
@@ -9,8 +9,9 @@ use std::alloc::Global;
 
 /// A future whose polls each call a closure. It is never spent, and giving it up does nothing.
 ///
-/// A poll requires (`can_poll`) that the closure may be called at every state and context, and that each of its calls
-/// leaves a context that is reached from the context before.
+/// A poll requires (`can_poll`) that the closure may be called at every context, in this poll and after each further one.
+/// Each of these calls leaves a context that is reached from the context before. `always_callable` shows it of a closure
+/// that may be called in every state.
 #[derive(Drop)]
 pub struct PollFn<F> {
     f: F,
@@ -28,7 +29,7 @@ impl<T, C: Context, F: FnMut(&mut C) -> Poll<T> + Drop> TaskFuture<C> for PollFn
 
     ghost is_spent = { λ p. false };
 
-    ghost can_poll = { λ p. ((state : F) (x : _) → F.pre state x) × StaysReached F.FnMut C.reaches };
+    ghost can_poll = { λ p. StaysCallable F.FnMut C.reaches p.f };
 
     // The answer and the context are those of one call of the closure.
     ghost polls = { λ p c r q d. CalledAtMut F.FnMut p.f c r q.f d };

@@ -2,10 +2,10 @@
 ghost use Rattle.std.specs.Prelude.{◌≡◌, true, ◌≤◌, ◌+◌, ◌++◌, ◌<◌, false, length, vec_len, vec_capacity};
 ghost use Rattle.std.specs.List.{list_any, All, AllZip};
 ghost use Rattle.std.specs.Vec.Iter.{into_iter_items, into_iter_len};
-ghost use Rattle.mono_combine.specs.Looks.{is_out, branch_spent, BranchCanPoll, BranchNarrows, LookGives, ReturnsFor, HasTurnAt};
+ghost use Rattle.mono_combine.specs.Looks.{is_out, branch_spent, BranchCanPoll, BranchNarrows, LookGives, TestsGivenAt, ReturnsFor, HasTurnAt};
 ghost use Rattle.mono_combine.specs.Rules.{unless_masked};
 ghost use Rattle.mono_combine.specs.BranchLists.{EachInTurn};
-ghost use Rattle.mono_combine.specs.ListSelects.{masked_from, MayLook, BranchEnds, RowSelects, PickGives};
+ghost use Rattle.mono_combine.specs.ListSelects.{masked_from, TestsEach, MayLook, BranchEnds, RowSelects, PickGives};
 
 use crate::branch::{Branch, Look, branch_of};
 use mono_model::{Host, Poll};
@@ -28,7 +28,7 @@ impl<T> Branch<T> {
         P: Fn(u32, &T::Output) -> bool,
         requires unspent { branch_spent T.TaskFuture self.old ≡ false }
         requires callable { BranchCanPoll T.TaskFuture self.old }
-        requires test { P.IsAlwaysCallable test.now }
+        requires test { TestsGivenAt T.gives P.Fn test.now number self.old }
         ensures turn { HasTurnAt T.TaskFuture P.Fn test.now number self.old cx.old result self.new cx.new }
         ensures counts { unless_masked (is_out self.old) result ≡ result }
         ensures unspent { branch_spent T.TaskFuture self.new ≡ false }
@@ -104,7 +104,7 @@ where
     requires below { start < vec_len branches.old }
     requires few { vec_len branches.old ≤ 64 }
     requires may { All (MayLook T.TaskFuture) branches.old.items }
-    requires test { G.IsAlwaysCallable test.now }
+    requires test { TestsEach T.gives G.Fn test.now branches.old.items }
     ensures selects { RowSelects T.TaskFuture G.Fn test.now start (record { branches = branches.old.items; cx = cx.old }) result (record { branches = branches.new.items; cx = cx.new }) }
     ensures length { vec_len branches.new ≡ vec_len branches.old }
     ensures again { All (MayLook T.TaskFuture) branches.new.items }

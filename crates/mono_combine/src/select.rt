@@ -1,6 +1,6 @@
 // Two branches; the answer is the first output that is ready and passes its predicate.
 ghost use Rattle.std.specs.Prelude.{◌≡◌, ◌<◌, ◌||◌, ◌==◌, ◌%◌, ◌/◌, true, false, if◌then◌else◌};
-ghost use Rattle.mono_combine.specs.Looks.{branch_spent, BranchCanPoll};
+ghost use Rattle.mono_combine.specs.Looks.{branch_spent, BranchCanPoll, TestsGiven};
 ghost use Rattle.mono_combine.specs.Selects.{Selects, SelectPolls, SelectGives, SelectCancels, PickGives, SelectNarrows, select_spent, as_second, as_first, then_look, or_disabled, left_out_if};
 
 use crate::branch::{Branch, Look, branch_of};
@@ -25,6 +25,8 @@ pub enum Out2<X, Y> {
 /// Each poll draws anew which branch has its turn first. A branch that is ready is given up at once and is out from
 /// then on, even if its predicate is false. Once a branch is picked or none is left, the unfinished branches are given
 /// up in the written order, including those that the mask left out. The select is spent once it has answered.
+///
+/// A poll requires (`can_poll`) that a predicate may be called with each output that its branch may give.
 ///
 /// ```rust
 /// let form = Select2::new(
@@ -127,8 +129,8 @@ impl<A, B, G, H> Select2<A, B, G, H> {
         requires second { branch_spent B.TaskFuture self.old.second ≡ false }
         requires first_callable { BranchCanPoll A.TaskFuture self.old.first }
         requires second_callable { BranchCanPoll B.TaskFuture self.old.second }
-        requires first_test { G.IsAlwaysCallable self.old.first_test }
-        requires second_test { H.IsAlwaysCallable self.old.second_test }
+        requires first_test { TestsGiven A.gives G.Fn self.old.first_test self.old.first }
+        requires second_test { TestsGiven B.gives H.Fn self.old.second_test self.old.second }
         ensures selects { Selects A.TaskFuture B.TaskFuture G.Fn H.Fn self.old.first_test self.old.second_test 0 (record { first = self.old.first; second = self.old.second; cx = cx.old }) result (record { first = self.new.first; second = self.new.second; cx = cx.new }) }
         ensures kept { self.new ≡ record self.old { first = self.new.first; second = self.new.second } }
         ensures given { PickGives A.gives B.gives G.Fn H.Fn self.old result }
@@ -162,8 +164,8 @@ impl<A, B, G, H> Select2<A, B, G, H> {
         requires second { branch_spent B.TaskFuture self.old.second ≡ false }
         requires first_callable { BranchCanPoll A.TaskFuture self.old.first }
         requires second_callable { BranchCanPoll B.TaskFuture self.old.second }
-        requires first_test { G.IsAlwaysCallable self.old.first_test }
-        requires second_test { H.IsAlwaysCallable self.old.second_test }
+        requires first_test { TestsGiven A.gives G.Fn self.old.first_test self.old.first }
+        requires second_test { TestsGiven B.gives H.Fn self.old.second_test self.old.second }
         ensures selects { Selects A.TaskFuture B.TaskFuture G.Fn H.Fn self.old.first_test self.old.second_test 1 (record { first = self.old.first; second = self.old.second; cx = cx.old }) result (record { first = self.new.first; second = self.new.second; cx = cx.new }) }
         ensures kept { self.new ≡ record self.old { first = self.new.first; second = self.new.second } }
         ensures given { PickGives A.gives B.gives G.Fn H.Fn self.old result }
@@ -199,8 +201,8 @@ impl<A, B, G, H> Select2<A, B, G, H> {
         requires second { branch_spent B.TaskFuture self.old.second ≡ false }
         requires first_callable { BranchCanPoll A.TaskFuture self.old.first }
         requires second_callable { BranchCanPoll B.TaskFuture self.old.second }
-        requires first_test { G.IsAlwaysCallable self.old.first_test }
-        requires second_test { H.IsAlwaysCallable self.old.second_test }
+        requires first_test { TestsGiven A.gives G.Fn self.old.first_test self.old.first }
+        requires second_test { TestsGiven B.gives H.Fn self.old.second_test self.old.second }
         ensures selects { Selects A.TaskFuture B.TaskFuture G.Fn H.Fn self.old.first_test self.old.second_test start (record { first = self.old.first; second = self.old.second; cx = cx.old }) result (record { first = self.new.first; second = self.new.second; cx = cx.new }) }
         ensures kept { self.new ≡ record self.old { first = self.new.first; second = self.new.second } }
         ensures given { PickGives A.gives B.gives G.Fn H.Fn self.old result }
@@ -231,7 +233,7 @@ where
 
     ghost is_spent = { select_spent A.TaskFuture B.TaskFuture };
 
-    ghost can_poll = { λ s. BranchCanPoll A.TaskFuture s.first × BranchCanPoll B.TaskFuture s.second × G.IsAlwaysCallable s.first_test × H.IsAlwaysCallable s.second_test };
+    ghost can_poll = { λ s. BranchCanPoll A.TaskFuture s.first × BranchCanPoll B.TaskFuture s.second × TestsGiven A.gives G.Fn s.first_test s.first × TestsGiven B.gives H.Fn s.second_test s.second };
 
     ghost polls = { SelectPolls A.TaskFuture B.TaskFuture G.Fn H.Fn };
 

@@ -3,7 +3,7 @@ ghost use Rattle.std.specs.Prelude.{◌≡◌, ◌≤◌, ◌<◌, ◌||◌, fal
 ghost use Rattle.std.specs.List.{list_any, All};
 ghost use Rattle.mono_combine.specs.Looks.{branch_spent, BranchCanPoll};
 ghost use Rattle.mono_combine.specs.Starts.{next_start};
-ghost use Rattle.mono_combine.specs.ListSelects.{masked_from, SelectListPolls, RowCancels, SelectListGives, out_of};
+ghost use Rattle.mono_combine.specs.ListSelects.{masked_from, TestsEach, SelectListPolls, RowCancels, SelectListGives, out_of};
 
 use crate::branch::Branch;
 use crate::pick::Out;
@@ -20,6 +20,8 @@ use std::alloc::Global;
 /// branch that is ready is given up at once and is out from then on, even if the predicate is false for its number and
 /// output. Once a branch is picked or none is left, the unfinished branches are given up in the written order,
 /// including those that the mask left out. The select is spent once it has answered.
+///
+/// A poll requires (`can_poll`) that the predicate may be called with each output that a branch may give.
 #[derive(Drop)]
 pub struct SelectList<T, G> {
     branches: Vec<Branch<T>>,
@@ -82,7 +84,7 @@ where
 
     ghost is_spent = { λ s. s.has_answered || list_any (branch_spent T.TaskFuture) s.branches.items };
 
-    ghost can_poll = { λ s. All (BranchCanPoll T.TaskFuture) s.branches.items × G.IsAlwaysCallable s.test };
+    ghost can_poll = { λ s. All (BranchCanPoll T.TaskFuture) s.branches.items × TestsEach T.gives G.Fn s.test s.branches.items };
 
     ghost polls = { λ s c r t d. SelectListPolls T.TaskFuture G.Fn s.test s.start s.branches.items c r t.branches.items t.has_answered d × (t.test ≡ s.test) × (t.start ≡ next_start s.start) };
 

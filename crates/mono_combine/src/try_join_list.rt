@@ -1,6 +1,6 @@
 // Many branches that are polled until one fails or all values are there.
 ghost use Rattle.std.specs.Prelude.{◌≡◌, ◌≤◌, ◌||◌, false, true, [], map, vec_len, vec_capacity, IfOk, IfErr};
-ghost use Rattle.std.specs.List.{list_any, All};
+ghost use Rattle.std.specs.List.{list_any};
 ghost use Rattle.mono_combine.specs.Branches.{maybe_spent};
 ghost use Rattle.mono_combine.specs.BranchLists.{AllCanPoll, AllCancel};
 ghost use Rattle.mono_combine.specs.TryLists.{TryJoinListPolls, TryJoinListGives, tried_as, result_as};
@@ -13,16 +13,6 @@ use mono_task::{Context, TaskFuture};
 use std::alloc::Global;
 use std::mem;
 
-/// The answer of a branch that may fail: a value or an error.
-pub trait Fallible {
-    /// The value of a branch that succeeds.
-    type Value;
-}
-
-impl<X, E> Fallible for Result<X, E> {
-    type Value = X;
-}
-
 /// At most 64 futures of one type. Each poll polls every unfinished one once, in the written order, up to the first
 /// that fails.
 ///
@@ -30,26 +20,19 @@ impl<X, E> Fallible for Result<X, E> {
 /// Otherwise it returns all values in the written order once all have been given (`try_join_rule`). It is spent once it
 /// has answered. `new` reserves the room for the values, so no poll is out of memory.
 #[derive(Drop)]
-pub struct TryJoinList<C: Context, T: TaskFuture<C, Output: Fallible>> {
-    branches: Vec<MaybeDone<C, T>>,
-    values: Vec<<T::Output as Fallible>::Value>,
+pub struct TryJoinList<T, X, E> {
+    branches: Vec<MaybeDone<T, Result<X, E>>>,
+    values: Vec<X>,
     has_answered: bool,
     ghost no_values: { values.items ≡ [] },
     ghost room: { vec_len branches ≤ vec_capacity values },
 }
 
-impl<C, X, E, T> TryJoinList<C, T>
-where
-    C: Context,
-    X: Drop,
-    E: Drop,
-    T: TaskFuture<C, Output = Result<X, E>>,
-{
+impl<T: Drop, X: Drop, E: Drop> TryJoinList<T, X, E> {
     /// Returns the join of at most 64 futures that are not spent. The futures come back only if the call is out of
     /// memory.
-    pub fn new(alloc: Global, v: Vec<T>) -> Result<TryJoinList<C, T>, Vec<T>>
+    pub fn new(alloc: Global, v: Vec<T>) -> Result<TryJoinList<T, X, E>, Vec<T>>
         requires few { vec_len v ≤ 64 }
-        requires unspent { All (λ f. T.is_spent f ≡ false) v.items }
         ensures made { IfOk result (λ form. form.branches.items ≡ map MaybeDone.Future v.items) }
         ensures fresh { IfOk result (λ form. form.has_answered ≡ false) }
         ensures handed_back { IfErr result (λ back. back ≡ v) }
@@ -69,7 +52,7 @@ where
     }
 }
 
-impl<C, X, E, T> TaskFuture<C> for TryJoinList<C, T>
+impl<C, X, E, T> TaskFuture<C> for TryJoinList<T, X, E>
 where
     C: Context,
     X: Drop,

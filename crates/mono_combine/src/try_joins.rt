@@ -13,16 +13,14 @@ use std::alloc::Global;
 /// It returns the first error in the written order at once, and gives up the unfinished branches in the written order.
 /// Otherwise it returns both values once both have been given (`try_join_rule`). It is spent once it has answered.
 #[derive(Drop)]
-pub struct TryJoin2<C: Context, A: TaskFuture<C>, B: TaskFuture<C>> {
-    a: MaybeDone<C, A>,
-    b: MaybeDone<C, B>,
+pub struct TryJoin2<A, B, X, Y, E> {
+    a: MaybeDone<A, Result<X, E>>,
+    b: MaybeDone<B, Result<Y, E>>,
 }
 
-impl<C: Context, A: TaskFuture<C>, B: TaskFuture<C>> TryJoin2<C, A, B> {
+impl<A, B, X, Y, E> TryJoin2<A, B, X, Y, E> {
     /// Returns the join of two futures that are not spent.
-    pub fn new(a: A, b: B) -> TryJoin2<C, A, B>
-        requires a { A.is_spent a ≡ false }
-        requires b { B.is_spent b ≡ false }
+    pub fn new(a: A, b: B) -> TryJoin2<A, B, X, Y, E>
         ensures a { result.a ≡ MaybeDone.Future a }
         ensures b { result.b ≡ MaybeDone.Future b }
     {
@@ -33,7 +31,7 @@ impl<C: Context, A: TaskFuture<C>, B: TaskFuture<C>> TryJoin2<C, A, B> {
     }
 }
 
-impl<C: Context, X: Drop, E: Drop, Fut: TaskFuture<C, Output = Result<X, E>>> MaybeDone<C, Fut> {
+impl<X: Drop, E: Drop, Fut: Drop> MaybeDone<Fut, Result<X, E>> {
     // Removes and returns the error, if there is one.
     fn take_failure(&mut self) -> Option<E>
         ensures error { result ≡ failure_of self.old }
@@ -50,7 +48,9 @@ impl<C: Context, X: Drop, E: Drop, Fut: TaskFuture<C, Output = Result<X, E>>> Ma
     }
 
     // Removes and returns the value, which has been given.
-    fn take_value(&mut self) -> X
+    fn take_value<C: Context>(&mut self) -> X
+    where
+        Fut: TaskFuture<C, Output = Result<X, E>>,
         requires unspent { maybe_spent Fut.TaskFuture self.old ≡ false }
         requires done { is_waiting self.old ≡ false }
         requires succeeded { failure_of self.old ≡ None }
@@ -64,7 +64,7 @@ impl<C: Context, X: Drop, E: Drop, Fut: TaskFuture<C, Output = Result<X, E>>> Ma
     }
 }
 
-impl<C, A, B, X, Y, E> TaskFuture<C> for TryJoin2<C, A, B>
+impl<C, A, B, X, Y, E> TaskFuture<C> for TryJoin2<A, B, X, Y, E>
 where
     C: Context,
     A: TaskFuture<C, Output = Result<X, E>>,

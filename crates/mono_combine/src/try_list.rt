@@ -13,7 +13,7 @@ use mono_task::{Context, TaskFuture};
 use std::alloc::Global;
 use std::{mem, vec};
 
-impl<C: Context, X: Drop, E: Drop, Fut: TaskFuture<C, Output = Result<X, E>>> MaybeDone<C, Fut> {
+impl<X: Drop, E: Drop, Fut: Drop> MaybeDone<Fut, Result<X, E>> {
     // Returns whether the branch has failed.
     fn has_failed(&self) -> bool
         ensures { result ≡ has_failed self.now }
@@ -32,7 +32,9 @@ impl<C: Context, X: Drop, E: Drop, Fut: TaskFuture<C, Output = Result<X, E>>> Ma
     }
 
     // Gives up the future that remains, and returns the error, if there is one.
-    fn give_up_failing(&mut self, cx: &mut C) -> Option<E>
+    fn give_up_failing<C: Context>(&mut self, cx: &mut C) -> Option<E>
+    where
+        Fut: TaskFuture<C, Output = Result<X, E>>,
         ensures error { result ≡ failure_of self.old }
         ensures gone { self.new ≡ MaybeDone.Gone }
         ensures cancelled { MaybeCancels Fut.TaskFuture self.old cx.old cx.new }
@@ -65,7 +67,7 @@ pub(crate) fn poll_until_failed<R, C, X, E, T>(
     rt: &R,
     alloc: Global,
     cx: &mut C,
-    branches: &mut Vec<MaybeDone<C, T>>,
+    branches: &mut Vec<MaybeDone<T, Result<X, E>>>,
 ) -> bool
 where
     R: Host,
@@ -91,9 +93,7 @@ where
 }
 
 // Returns whether a branch waits.
-pub(crate) fn any_waiting<C: Context, T: TaskFuture<C, Output: Drop>>(
-    branches: &[MaybeDone<C, T>],
-) -> bool
+pub(crate) fn any_waiting<T: Drop, X: Drop>(branches: &[MaybeDone<T, X>]) -> bool
     ensures { result ≡ list_any is_waiting branches.now }
 {
     for branch in branches {
@@ -107,7 +107,7 @@ pub(crate) fn any_waiting<C: Context, T: TaskFuture<C, Output: Drop>>(
 // Gives up each branch that remains, in the written order, and returns the first error.
 pub(crate) fn give_up_failing<C, X, E, T>(
     cx: &mut C,
-    branches: &mut Vec<MaybeDone<C, T>>,
+    branches: &mut Vec<MaybeDone<T, Result<X, E>>>,
 ) -> Option<E>
 where
     C: Context,
@@ -128,15 +128,10 @@ where
 }
 
 // Moves the values, in the written order, to a vector that has the room for them.
-pub(crate) fn collect_values<C, X, E, T>(
-    mut branches: vec::IntoIter<MaybeDone<C, T>>,
+pub(crate) fn collect_values<T: Drop, X: Drop, E: Drop>(
+    mut branches: vec::IntoIter<MaybeDone<T, Result<X, E>>>,
     values: &mut Vec<X>,
 )
-where
-    C: Context,
-    X: Drop,
-    E: Drop,
-    T: TaskFuture<C, Output = Result<X, E>>,
     requires { vec_len values.old + into_iter_len branches ≤ vec_capacity values.old }
     ensures { values.new.items ≡ values.old.items ++ filter_map value_in (into_iter_items branches) }
 {

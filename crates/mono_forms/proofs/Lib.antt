@@ -1,3 +1,4 @@
 pub mod AnswerLemmas
 pub mod LoopLemmas
 pub mod RaceListLemmas
+pub mod CanPollLemmas

@@ -16,3 +16,4 @@ pub mod Fuses
 pub mod EitherRaces
 pub mod RaceLists
 pub mod LazySpawns
+pub mod Bodies

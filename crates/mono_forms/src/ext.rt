@@ -2,6 +2,7 @@
 ghost use Rattle.std.specs.Prelude.{◌≡◌, Some, IfOk, IfErr};
 
 use crate::answers::{Pending, Ready};
+use crate::bodies::{SelectBodies, SelectBodies2};
 use crate::boxes::Boxed;
 use crate::either_races::RaceEither;
 use crate::eithers::Either;
@@ -18,8 +19,10 @@ use crate::rescues::{OrElse, TryFlattenErr};
 use crate::tries::{AndThen, TryFlatten};
 use crate::yields::YieldNow;
 use mono_blocking::{JobHandle, RunJob};
-use mono_combine::{Fallible, Join2, JoinList, PollFn, Select2, SelectList, TryJoin2, TryJoinList};
-use mono_task::{Context, JoinHandle, TaskFuture};
+use mono_combine::{
+    Join2, JoinList, MaybeDone, PollFn, Select2, SelectList, TryJoin2, TryJoinList,
+};
+use mono_task::JoinHandle;
 use mono_time::{Sleep, SleepFor, Timeout, TimeoutFor};
 use std::alloc::{AllocFailed, Global};
 
@@ -80,6 +83,35 @@ pub trait FutureExt: Sized {
         TryFlattenErr::First(MapErr {
             inner: Some((self, f)),
         })
+    }
+
+    /// Answers by the body of the branch that a select of two picks, called with the branch's output, or by the fallback
+    /// if no branch is left.
+    final fn with_bodies<X, Y, U, F: FnOnce(X) -> U, G: FnOnce(Y) -> U, H: FnOnce() -> U>(
+        self,
+        first: F,
+        second: G,
+        fallback: H,
+    ) -> SelectBodies2<Self, F, G, H>
+        ensures { result.inner ≡ Some (self, (first, second, fallback)) }
+    {
+        SelectBodies2 {
+            inner: Some((self, (first, second, fallback))),
+        }
+    }
+
+    /// Answers by the body, called with the number and the output of the branch that a select of a list picks, or by the
+    /// fallback if no branch is left.
+    final fn with_body<X, U, F: FnOnce(u32, X) -> U, H: FnOnce() -> U>(
+        self,
+        body: F,
+        fallback: H,
+    ) -> SelectBodies<Self, F, H>
+        ensures { result.inner ≡ Some (self, (body, fallback)) }
+    {
+        SelectBodies {
+            inner: Some((self, (body, fallback))),
+        }
     }
 
     /// Shows its answer to a closure, and returns it as it is.
@@ -174,6 +206,10 @@ impl<A, B> FutureExt for RaceEither<A, B> {}
 
 impl<T> FutureExt for RaceList<T> {}
 
+impl<S, F, G, H> FutureExt for SelectBodies2<S, F, G, H> {}
+
+impl<S, F, H> FutureExt for SelectBodies<S, F, H> {}
+
 impl FutureExt for Sleep {}
 
 impl FutureExt for SleepFor {}
@@ -184,13 +220,15 @@ impl<T> FutureExt for TimeoutFor<T> {}
 
 impl<F> FutureExt for PollFn<F> {}
 
-impl<C: Context, A: TaskFuture<C>, B: TaskFuture<C>> FutureExt for Join2<C, A, B> {}
+impl<A, X> FutureExt for MaybeDone<A, X> {}
 
-impl<C: Context, A: TaskFuture<C>, B: TaskFuture<C>> FutureExt for TryJoin2<C, A, B> {}
+impl<A, B, X, Y> FutureExt for Join2<A, B, X, Y> {}
 
-impl<C: Context, T: TaskFuture<C>> FutureExt for JoinList<C, T> {}
+impl<A, B, X, Y, E> FutureExt for TryJoin2<A, B, X, Y, E> {}
 
-impl<C: Context, T: TaskFuture<C, Output: Fallible>> FutureExt for TryJoinList<C, T> {}
+impl<T, X> FutureExt for JoinList<T, X> {}
+
+impl<T, X, E> FutureExt for TryJoinList<T, X, E> {}
 
 impl<A, B, G, H> FutureExt for Select2<A, B, G, H> {}
 

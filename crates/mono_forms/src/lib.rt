@@ -7,6 +7,7 @@
 #![tactic(auto)]
 
 mod answers;
+mod bodies;
 mod boxes;
 mod either_races;
 mod eithers;
@@ -27,6 +28,7 @@ mod tries;
 mod yields;
 
 pub use answers::{Pending, Ready};
+pub use bodies::{SelectBodies, SelectBodies2};
 pub use boxes::Boxed;
 pub use either_races::RaceEither;
 pub use eithers::Either;

@@ -36,11 +36,11 @@ pending-list (Ready (x, y)) e = absurd (cc)
 pending-list Pending e = refl
 
 -- a branch of a join whose future waits
-branch_waits : {C S O : Type 0} (future : FutureOf S C O) (f : S) (c : C) (n : MaybeDone C S O) (d : C) (polls : BranchPolls future f c n d) → polls.answer ≡ Pending → (n ≡ maybe.Future polls.left) × (d ≡ polls.middle)
+branch_waits : {C S O : Type 0} (future : FutureOf S C O) (f : S) (c : C) (n : MaybeDone S O) (d : C) (polls : BranchPolls future f c n d) → polls.answer ≡ Pending → (n ≡ maybe.Future polls.left) × (d ≡ polls.middle)
 branch_waits future f c n d polls pending = subst (λ k. AfterBranch future k polls.left polls.middle n d) pending polls.rest
 
 -- a branch of a join whose future answers
-branch_ends : {C S O : Type 0} (future : FutureOf S C O) (f : S) (c : C) (n : MaybeDone C S O) (d : C) (polls : BranchPolls future f c n d) (x : O) → polls.answer ≡ Ready x → future.cancels polls.left polls.middle d × (n ≡ maybe.Done x)
+branch_ends : {C S O : Type 0} (future : FutureOf S C O) (f : S) (c : C) (n : MaybeDone S O) (d : C) (polls : BranchPolls future f c n d) (x : O) → polls.answer ≡ Ready x → future.cancels polls.left polls.middle d × (n ≡ maybe.Done x)
 branch_ends future f c n d polls x ready = subst (λ k. AfterBranch future k polls.left polls.middle n d) ready polls.rest
 
 abbrev pair : Raced → Raced → Raced × Raced
@@ -84,7 +84,7 @@ module _ {C : Type 0} (number : C → ℕ) (sleeps : C → SleepTable) (work : C
 
   pub nest_waits : ((s : Select2 Limited Limited G H) (c : C) (r : Poll Raced) (s' : Select2 Limited Limited G H) (d : C) → first.polls s c r s' d → SelectPolls (limited number sleeps work wakes reaches) (limited number sleeps work wakes reaches) g h s c r s' d)
       → ((s : Select2 Limited Limited I J) (c : C) (r : Poll Raced) (s' : Select2 Limited Limited I J) (d : C) → second.polls s c r s' d → SelectPolls (limited number sleeps work wakes reaches) (limited number sleeps work wakes reaches) i j s c r s' d)
-      → (a b e f : Limited) (p : G) (q : H) (u : I) (v : J) (c : C) (r : Poll (Raced × Raced)) (left : Join2 C (Select2 Limited Limited G H) (Select2 Limited Limited I J) Raced Raced) (d : C)
+      → (a b e f : Limited) (p : G) (q : H) (u : I) (v : J) (c : C) (r : Poll (Raced × Raced)) (left : Join2 (Select2 Limited Limited G H) (Select2 Limited Limited I J) Raced Raced) (d : C)
       → JoinPolls first second (nest_of (race_of a b p q) (race_of e f u v)) c r left d
       → Waits (sleeps c) a → Waits (sleeps c) b → Waits (sleeps c) e → Waits (sleeps c) f
       → (r ≡ Pending) × (left ≡ nest_of (race_of (polled_once a) (polled_once b) p q) (race_of (polled_once e) (polled_once f) u v))
@@ -112,7 +112,7 @@ module _ {C : Type 0} (number : C → ℕ) (sleeps : C → SleepTable) (work : C
       → ((s : Select2 Limited Limited G H) (c d : C) → first.cancels s c d → SelectCancels (limited number sleeps work wakes reaches) (limited number sleeps work wakes reaches) s c d)
       → ((s : Select2 Limited Limited I J) (c : C) (r : Poll Raced) (s' : Select2 Limited Limited I J) (d : C) → second.polls s c r s' d → SelectPolls (limited number sleeps work wakes reaches) (limited number sleeps work wakes reaches) i j s c r s' d)
       → ((s : Select2 Limited Limited I J) (c d : C) → second.cancels s c d → SelectCancels (limited number sleeps work wakes reaches) (limited number sleeps work wakes reaches) s c d)
-      → (a b e f : Limited) (p : G) (q : H) (u : I) (v : J) (c : C) (r : Poll (Raced × Raced)) (left : Join2 C (Select2 Limited Limited G H) (Select2 Limited Limited I J) Raced Raced) (d : C)
+      → (a b e f : Limited) (p : G) (q : H) (u : I) (v : J) (c : C) (r : Poll (Raced × Raced)) (left : Join2 (Select2 Limited Limited G H) (Select2 Limited Limited I J) Raced Raced) (d : C)
       → JoinPolls first second (nest_of (race_of a b p q) (race_of e f u v)) c r left d
       → is_over a.value ≡ true → Waits (sleeps c) e → IsLate (sleeps c) f → Apart a b e f → Passes g p (Ok a.value.value) → Passes j v late
       → (r ≡ Ready (First (Ok a.value.value), Second late))
@@ -138,14 +138,14 @@ module _ {C : Type 0} (number : C → ℕ) (sleeps : C → SleepTable) (work : C
 
   maybe_cancels : {P Q : Type 0} (future : FutureOf (Select2 Limited Limited P Q) C Raced)
       → ((s : Select2 Limited Limited P Q) (c d : C) → future.cancels s c d → SelectCancels (limited number sleeps work wakes reaches) (limited number sleeps work wakes reaches) s c d)
-      → (n : MaybeDone C (Select2 Limited Limited P Q) Raced) (c d : C) → MaybeCancels future n c d → (sleeps d ≡ all_removed (sleeps c) (delays_in n)) × (work d ≡ work c) × (number d ≡ number c)
+      → (n : MaybeDone (Select2 Limited Limited P Q) Raced) (c d : C) → MaybeCancels future n c d → (sleeps d ≡ all_removed (sleeps c) (delays_in n)) × (work d ≡ work c) × (number d ≡ number c)
   maybe_cancels future is (maybe.Future s) c d gives = race_cancels number sleeps work wakes reaches same keeps s c d (is s c d gives)
   maybe_cancels future is (maybe.Done x) c d gives = (ap sleeps gives, ap work gives, ap number gives)
   maybe_cancels future is maybe.Gone c d gives = (ap sleeps gives, ap work gives, ap number gives)
 
   pub nest_cancels : ((s : Select2 Limited Limited G H) (c d : C) → first.cancels s c d → SelectCancels (limited number sleeps work wakes reaches) (limited number sleeps work wakes reaches) s c d)
       → ((s : Select2 Limited Limited I J) (c d : C) → second.cancels s c d → SelectCancels (limited number sleeps work wakes reaches) (limited number sleeps work wakes reaches) s c d)
-      → (n : Join2 C (Select2 Limited Limited G H) (Select2 Limited Limited I J) Raced Raced) (c d : C) → JoinCancels first second n c d
+      → (n : Join2 (Select2 Limited Limited G H) (Select2 Limited Limited I J) Raced Raced) (c d : C) → JoinCancels first second n c d
       → (sleeps d ≡ all_removed (sleeps c) (delays_of n)) × (work d ≡ work c)
   nest_cancels first_is second_is n c d gives =
       let x = maybe_cancels first first_is n.a c gives.0 gives.1 in

@@ -27,7 +27,7 @@ abbrev pub race_of : {G H : Type 0} → Limited → Limited → G → H → Sele
 race_of a b g h = record { first = Live a; second = Live b; first_test = g; second_test = h; start = Biased; has_answered = false }
 
 -- A new join.
-abbrev pub nest_of : {C A B X Y : Type 0} → A → B → Join2 C A B X Y
+abbrev pub nest_of : {A B X Y : Type 0} → A → B → Join2 A B X Y
 nest_of a b = record { a = maybe.Future a; b = maybe.Future b }
 
 -- The countdown has polls left, and the delay is not due.
@@ -104,10 +104,10 @@ delay_in Gone = []
 abbrev pub delays_in_race : {G H : Type 0} → Select2 Limited Limited G H → List ℕ
 delays_in_race s = delay_in s.first ++ delay_in s.second
 
-abbrev pub delays_in : {C G H X : Type 0} → MaybeDone C (Select2 Limited Limited G H) X → List ℕ
+abbrev pub delays_in : {G H X : Type 0} → MaybeDone (Select2 Limited Limited G H) X → List ℕ
 delays_in (maybe.Future s) = delays_in_race s
 delays_in (maybe.Done x) = []
 delays_in maybe.Gone = []
 
-abbrev pub delays_of : {C G H I J X Y : Type 0} → Join2 C (Select2 Limited Limited G H) (Select2 Limited Limited I J) X Y → List ℕ
+abbrev pub delays_of : {G H I J X Y : Type 0} → Join2 (Select2 Limited Limited G H) (Select2 Limited Limited I J) X Y → List ℕ
 delays_of n = delays_in n.a ++ delays_in n.b

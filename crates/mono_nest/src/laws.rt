@@ -7,8 +7,7 @@ ghost use Rattle.mono_combine.specs.declared.select.Out2.{Out2};
 ghost use Rattle.mono_nest.specs.Countdowns.{is_over};
 ghost use Rattle.mono_nest.specs.Nests.{Limited, race_of, nest_of, Waits, IsLate, Apart, IsGone, Passes, late, polled_once, all_polled, all_removed, after_end, delays_of};
 
-use crate::nests::{Answer, Race};
-use mono_combine::Join2;
+use crate::nests::{Answer, Nest};
 use mono_task::TaskFuture;
 use mono_time::TimeContext;
 
@@ -23,7 +22,7 @@ where
     I: Fn(&Answer) -> bool + Drop,
     J: Fn(&Answer) -> bool + Drop,
     ensures { (a b e f : Limited) (g : G) (h : H) (i : I) (j : J) (c : C) (r : _) (left : _) (d : C)
-        → ⟦<Join2<C, Race<G, H>, Race<I, J>> as TaskFuture<C>>⟧.polls (nest_of (race_of a b g h) (race_of e f i j)) c r left d
+        → ⟦<Nest<G, H, I, J> as TaskFuture<C>>⟧.polls (nest_of (race_of a b g h) (race_of e f i j)) c r left d
         → Waits (C.sleeps c) a → Waits (C.sleeps c) b → Waits (C.sleeps c) e → Waits (C.sleeps c) f
         → (r ≡ Poll.Pending)
         × (left ≡ nest_of (race_of (polled_once a) (polled_once b) g h) (race_of (polled_once e) (polled_once f) i j))
@@ -42,7 +41,7 @@ where
     I: Fn(&Answer) -> bool + Drop,
     J: Fn(&Answer) -> bool + Drop,
     ensures { (a b e f : Limited) (g : G) (h : H) (i : I) (j : J) (c : C) (r : _) (left : _) (d : C)
-        → ⟦<Join2<C, Race<G, H>, Race<I, J>> as TaskFuture<C>>⟧.polls (nest_of (race_of a b g h) (race_of e f i j)) c r left d
+        → ⟦<Nest<G, H, I, J> as TaskFuture<C>>⟧.polls (nest_of (race_of a b g h) (race_of e f i j)) c r left d
         → is_over a.value ≡ true → Waits (C.sleeps c) e → IsLate (C.sleeps c) f → Apart a b e f
         → Passes G.Fn g (Ok a.value.value) → Passes J.Fn j late
         → (r ≡ Poll.Ready (Out2.First (Ok a.value.value), Out2.Second late))
@@ -60,6 +59,6 @@ where
     I: Fn(&Answer) -> bool + Drop,
     J: Fn(&Answer) -> bool + Drop,
     ensures { (n : _) (c d : C)
-        → ⟦<Join2<C, Race<G, H>, Race<I, J>> as TaskFuture<C>>⟧.cancels n c d
+        → ⟦<Nest<G, H, I, J> as TaskFuture<C>>⟧.cancels n c d
         → (C.sleeps d ≡ all_removed (C.sleeps c) (delays_of n)) × (C.work d ≡ C.work c) }
 {}

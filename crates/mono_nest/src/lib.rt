@@ -10,5 +10,5 @@ mod nests;
 mod start;
 
 pub use by_hand::Countdown;
-pub use nests::{Answer, Limited, Race, Raced, nest, polled_once, race};
+pub use nests::{Answer, Limited, Nest, Race, Raced, nest, polled_once, race};
 pub use start::begin;

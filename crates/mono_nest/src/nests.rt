@@ -1,5 +1,5 @@
 // The types and the construction of the nest.
-ghost use Rattle.std.specs.Prelude.{◌≡◌, true, false, [], ◌∷◌};
+ghost use Rattle.std.specs.Prelude.{◌≡◌, true, [], ◌∷◌};
 ghost use Rattle.mono_model.specs.Tasks.{all_woken};
 ghost use Rattle.mono_nest.specs.Nests.{race_of, nest_of, MayBegin, all_polled, all_removed};
 
@@ -23,6 +23,9 @@ pub type Race<G, H> = Select2<Limited, Limited, G, H>;
 /// The answer of a race.
 pub type Raced = Out2<Answer, Answer>;
 
+/// Two races, both of which have to end.
+pub type Nest<G, H, I, J> = Join2<Race<G, H>, Race<I, J>, Raced, Raced>;
+
 /// Returns the race of two countdowns with deadlines, with a predicate for each. Both take part, and the first has its
 /// turn first.
 pub fn race<G, H>(a: Limited, b: Limited, g: G, h: H) -> Race<G, H>
@@ -32,18 +35,7 @@ pub fn race<G, H>(a: Limited, b: Limited, g: G, h: H) -> Race<G, H>
 }
 
 /// Joins two races, both of which have to end.
-pub fn nest<C, G, H, I, J>(
-    first: Race<G, H>,
-    second: Race<I, J>,
-) -> Join2<C, Race<G, H>, Race<I, J>>
-where
-    C: TimeContext,
-    G: Fn(&Answer) -> bool + Drop,
-    H: Fn(&Answer) -> bool + Drop,
-    I: Fn(&Answer) -> bool + Drop,
-    J: Fn(&Answer) -> bool + Drop,
-    requires first { ⟦<Race<G, H> as TaskFuture<C>>⟧.is_spent first ≡ false }
-    requires second { ⟦<Race<I, J> as TaskFuture<C>>⟧.is_spent second ≡ false }
+pub fn nest<G, H, I, J>(first: Race<G, H>, second: Race<I, J>) -> Nest<G, H, I, J>
     ensures { result ≡ nest_of first second }
 {
     Join2::new(first, second)
@@ -81,7 +73,7 @@ where
     let (e, f) = second;
     let (g, h) = first_tests;
     let (i, j) = second_tests;
-    let mut both: Join2<C, Race<G, H>, Race<I, J>> = nest(race(a, b, g, h), race(e, f, i, j));
+    let mut both: Nest<G, H, I, J> = nest(race(a, b, g, h), race(e, f, i, j));
     nest_waits::<C, G, H, I, J>();
     let answer = both.poll(rt, alloc, cx);
     let waits = answer.is_pending();

@@ -8,24 +8,26 @@ use crate::futures::Quiet;
 use mono_combine::{Join2, JoinList, MaybeDone, TryJoin2, TryJoinList};
 use mono_task::Context;
 
-impl<C: Context, Fut: Quiet<C, Output: Drop>> Quiet<C> for MaybeDone<C, Fut> {
+impl<C: Context, X: Drop, Fut: Quiet<C, Output = X>> Quiet<C> for MaybeDone<Fut, X> {
     ghost polls_make_none = { λ m c r n d q. advance_makes_none C.work Fut.TaskFuture Fut.cancels_make_none Fut.polls_make_none m c n d q.0 };
 
     ghost cancels_make_none = { maybe_left C.work Fut.TaskFuture Fut.cancels_make_none };
 }
 
-impl<C, A, B> Quiet<C> for Join2<C, A, B>
+impl<C, A, B, X, Y> Quiet<C> for Join2<A, B, X, Y>
 where
     C: Context,
-    A: Quiet<C, Output: Drop>,
-    B: Quiet<C, Output: Drop>,
+    A: Quiet<C, Output = X>,
+    B: Quiet<C, Output = Y>,
+    X: Drop,
+    Y: Drop,
 {
     ghost polls_make_none = { join_makes_none C.work A.TaskFuture B.TaskFuture A.cancels_make_none B.cancels_make_none A.polls_make_none B.polls_make_none };
 
     ghost cancels_make_none = { join_left C.work A.TaskFuture B.TaskFuture A.cancels_make_none B.cancels_make_none };
 }
 
-impl<C, A, B, X, Y, E> Quiet<C> for TryJoin2<C, A, B>
+impl<C, A, B, X, Y, E> Quiet<C> for TryJoin2<A, B, X, Y, E>
 where
     C: Context,
     A: Quiet<C, Output = Result<X, E>>,
@@ -39,13 +41,13 @@ where
     ghost cancels_make_none = { λ f. both_left C.work A.TaskFuture B.TaskFuture A.cancels_make_none B.cancels_make_none f.a f.b };
 }
 
-impl<C: Context, T: Quiet<C, Output: Drop>> Quiet<C> for JoinList<C, T> {
+impl<C: Context, X: Drop, T: Quiet<C, Output = X>> Quiet<C> for JoinList<T, X> {
     ghost polls_make_none = { λ f c r g d. join_list_makes_none C.work T.TaskFuture T.cancels_make_none T.polls_make_none f.branches.items c (answer_as (λ v. v.items) r) g.branches.items g.has_answered d };
 
     ghost cancels_make_none = { λ f. join_list_left C.work T.TaskFuture T.cancels_make_none f.branches.items };
 }
 
-impl<C, X, E, T> Quiet<C> for TryJoinList<C, T>
+impl<C, X, E, T> Quiet<C> for TryJoinList<T, X, E>
 where
     C: Context,
     X: Drop,

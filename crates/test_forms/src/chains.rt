@@ -14,7 +14,7 @@ use std::time::Duration;
 
 /// A job that no test hands out.
 #[derive(Drop)]
-struct NoJob {
+pub(crate) struct NoJob {
     number: u64,
 }
 
@@ -37,7 +37,7 @@ impl Job for NoJob {
 }
 
 /// Returns how many turns, parks and milliseconds of parks a journal has.
-fn told_in(journal: &Journal) -> (u64, u64, u64) {
+pub(crate) fn told_in(journal: &Journal) -> (u64, u64, u64) {
     let mut turns = 0u64;
     let mut parks = 0u64;
     let mut milliseconds = 0u64;

@@ -6,6 +6,8 @@ mod chains;
 #[cfg(test)]
 mod counts;
 #[cfg(test)]
+mod joins;
+#[cfg(test)]
 mod logs;
 #[cfg(test)]
 mod nests;

@@ -128,7 +128,7 @@ fn selects_and_joins(rt: HostRuntime) {
 /// Returns whether an output is kept, changed in place, and taken once.
 fn is_kept<R: Host>(rt: &R, alloc: Global, cx: &mut Board) -> bool {
     let (a, _) = branches((0, 0), (4, 0));
-    let mut kept: MaybeDone<Board, Step> = maybe_done(a);
+    let mut kept: MaybeDone<Step, u64> = maybe_done(a);
     let before = kept.take_output();
     let ready = kept.poll(rt, alloc, cx);
     if let Some(output) = kept.output_mut() {
@@ -140,6 +140,7 @@ fn is_kept<R: Host>(rt: &R, alloc: Global, cx: &mut Board) -> bool {
 }
 
 /// Returns whether a closure greets at its poll.
+#[tactic(auto, using(mono_combine::proofs::PollFnLemmas::always_callable))]
 fn greets<R: Host>(rt: &R, alloc: Global, cx: &mut Board) -> bool {
     let mut greeting = poll_fn(|_: &mut Board| Poll::Ready("Hello, World!"));
     match greeting.poll(rt, alloc, cx) {

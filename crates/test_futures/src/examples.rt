@@ -66,7 +66,7 @@ pub(crate) fn join_waits<C: Context, R: Host>(
     requires { 0 < first }
     ensures { result ≡ true }
 {
-    let mut both: Join2<C, Countdown, Countdown> = Join2::new(
+    let mut both: Join2<Countdown, Countdown, (), ()> = Join2::new(
         countdown_of(first),
         countdown_of(second),
     );

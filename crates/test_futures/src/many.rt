@@ -72,7 +72,7 @@ fn joined<R: Host>(
     if steps.len() > 64 {
         return Err(AllocError);
     }
-    match JoinList::<Board, Step>::new(alloc, steps) {
+    match JoinList::<Step, u64>::new(alloc, steps) {
         Ok(form) => Ok(told(rt, alloc, cx, form, 9)),
         Err(_) => Err(AllocError),
     }
@@ -139,7 +139,7 @@ fn tried<R: Host>(
     if trials.len() > 64 {
         return Err(AllocError);
     }
-    match TryJoinList::<Board, Trial>::new(alloc, trials) {
+    match TryJoinList::<Trial, u64, u64>::new(alloc, trials) {
         Ok(form) => Ok(told(rt, alloc, cx, form, 9)),
         Err(_) => Err(AllocError),
     }

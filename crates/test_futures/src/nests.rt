@@ -57,7 +57,7 @@ fn two_polls<R: Host + Abort>(rt: &R, alloc: Global, cx: &mut Desk) -> bool {
     let e = limited(rt, alloc, cx, 10, 9, 7);
     let f = limited(rt, alloc, cx, 0, 9, 8);
     let each = |_: &Answer| true;
-    let mut both = nest::<Desk, _, _, _, _>(race(a, b, each, each), race(e, f, each, each));
+    let mut both = nest(race(a, b, each, each), race(e, f, each, each));
     if both.poll(rt, alloc, cx).is_ready() {
         return false;
     }

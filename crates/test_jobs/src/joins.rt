@@ -28,7 +28,7 @@ fn join_once<C: JobContext<JobOutput = u64>, R: Host>(
 ) -> u64
     ensures { C.reaches cx.old cx.new }
 {
-    let mut join: Join2<C, JobHandle, JobHandle> = Join2::new(first, second);
+    let mut join = Join2::new(first, second);
     match join.poll(rt, alloc, cx) {
         Poll::Ready((one, two)) => code(one).saturating_mul(10).saturating_add(code(two)),
         Poll::Pending => {

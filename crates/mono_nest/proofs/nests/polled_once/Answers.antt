@@ -22,3 +22,9 @@ returns-clause-work g c =
     let polls = rw (c.nest-both.ensures, c.race.ensures, c.race-2.ensures) at c.poll-answer.ensures.polled in
     let k = c.nest_waits.ensures _ _ _ _ _ _ _ _ _ _ _ _ polls c.requires.first.0.1 c.requires.first.1.1 c.requires.second.0.1 c.requires.second.1.1 in
     (c.nest_is_given_up.ensures _ _ _ c.cancel.ensures.cancelled).1 ∙ k.3
+
+pub poll-answer-requires-clause-callable : goal.poll-answer-requires-clause-callable
+poll-answer-requires-clause-callable g c = rw (c.nest-both.ensures, c.race.ensures, c.race-2.ensures) (
+  (tt, tt, λ shown given. c.requires.first_tests.0.at (shown, tt), λ shown given. c.requires.first_tests.1.at (shown, tt)),
+  (tt, tt, λ shown given. c.requires.second_tests.0.at (shown, tt), λ shown given. c.requires.second_tests.1.at (shown, tt)),
+)

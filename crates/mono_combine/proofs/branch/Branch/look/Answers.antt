@@ -2,6 +2,9 @@ use Rattle.std.proofs.Common.{refl}
 use Rattle.std.specs.Fn.{FnReturnsAt}
 use Rattle.mono_combine.proofs.branch.Branch.look.Goals as goal
 
+pub test-requires : goal.test-requires
+test-requires g c = c.requires.test _ (rw c.in-Live.is c.in-Ready.ensures.given)
+
 pub returns-then-test-clause-turn : goal.returns-then-test-clause-turn
 returns-then-test-clause-turn g c = rw c.in-Live.is (record {
   answer = _;

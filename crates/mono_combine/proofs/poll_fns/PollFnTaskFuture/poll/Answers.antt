@@ -1,4 +1,4 @@
-use Rattle.std.proofs.Common.{refl}
+use Rattle.std.proofs.Common.{refl, [], ◌∷◌}
 use Rattle.std.specs.Fn.{CalledAtMut}
 use Rattle.mono_model.specs.Poll.{IfReady}
 use Rattle.mono_model.specs.declared.poll.Poll.{Poll}
@@ -14,5 +14,11 @@ gives_call g f f' c d Pending called = tt
 pub returns-clause-given : goal.returns-clause-given
 returns-clause-given g c = gives_call g.F.FnMut _ _ _ _ _ (record { shown = _; shows = refl; left = _; called = c.f.ensures; leaves = refl })
 
+pub f-requires : goal.f-requires
+f-requires g c = (c.requires.callable (_ ∷ [])).0
+
 pub returns-clause-reached : goal.returns-clause-reached
-returns-clause-reached g c = c.requires.callable.1 _ _ _ _ _ (record { shown = _; shows = refl; left = _; called = c.f.ensures; leaves = refl })
+returns-clause-reached g c = ((c.requires.callable (c.args.cx ∷ [])).1 _ _ _ (record { shown = _; shows = refl; left = _; called = c.f.ensures; leaves = refl })).0
+
+pub returns-clause-callable : goal.returns-clause-callable
+returns-clause-callable g c = λ xs. ((c.requires.callable (c.args.cx ∷ xs)).1 _ _ _ (record { shown = _; shows = refl; left = _; called = c.f.ensures; leaves = refl })).1

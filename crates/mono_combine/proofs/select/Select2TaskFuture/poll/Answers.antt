@@ -1,6 +1,6 @@
 use Rattle.std.proofs.Common.{refl, ap}
 use Rattle.mono_model.specs.declared.poll.Poll.TheVariants.{Ready, Pending}
-use Rattle.mono_combine.proofs.GivesLemmas.{picked_given, select_before}
+use Rattle.mono_combine.proofs.GivesLemmas.{picked_given, select_before, tests_fewer}
 use Rattle.mono_combine.proofs.select.Select2TaskFuture.poll.Goals as goal
 
 pub returns-in-Ready-clause-polled : goal.returns-in-Ready-clause-polled
@@ -25,6 +25,17 @@ returns-in-Pending-clause-polled g c =
       selects = rw (c.in-Pending.is, c.draw-start.ensures.start) at c.select_from.ensures.selects;
       ends = (refl, rw c.draw-start.ensures.next at c.select_from.ensures.kept, refl);
     }
+
+pub returns-in-Ready-clause-callable : goal.returns-in-Ready-clause-callable
+returns-in-Ready-clause-callable g c = rw (c.give_up.ensures.gone, c.give_up-in-Ready.ensures.gone) (tt, tt, λ shown h. absurd h, λ shown h. absurd h)
+
+pub returns-in-Pending-clause-callable : goal.returns-in-Pending-clause-callable
+returns-in-Pending-clause-callable g c = (
+  c.select_from.ensures.first_callable,
+  c.select_from.ensures.second_callable,
+  tests_fewer g.A.TaskFuture.gives g.G.Fn c.args.self.now.first_test _ _ c.args.self.now.first (ap (λ s. s.first_test) c.select_from.ensures.kept) c.select_from.ensures.narrows.0 c.requires.callable.2,
+  tests_fewer g.B.TaskFuture.gives g.H.Fn c.args.self.now.second_test _ _ c.args.self.now.second (ap (λ s. s.second_test) c.select_from.ensures.kept) c.select_from.ensures.narrows.1 c.requires.callable.3,
+)
 
 pub returns-in-Ready-clause-reached : goal.returns-in-Ready-clause-reached
 returns-in-Ready-clause-reached g c = g.met.C.Context.reaches_on _ _ _ (g.met.C.Context.reaches_on _ _ _ c.select_from.ensures.reached c.give_up.ensures.reached) c.give_up-in-Ready.ensures.reached

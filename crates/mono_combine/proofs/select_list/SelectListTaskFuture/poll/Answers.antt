@@ -1,8 +1,8 @@
 use Rattle.std.proofs.Common.{◌≡◌, ◌∙◌, false, refl, sym, ap}
 use Rattle.mono_model.specs.declared.poll.Poll.TheVariants.{Ready, Pending}
 use Rattle.mono_combine.proofs.ListLemmas.{neither}
-use Rattle.mono_combine.proofs.ListEndLemmas.{may_look, unspent_of, can_of, ended_can}
-use Rattle.mono_combine.proofs.GivesLemmas.{out_given, row_before}
+use Rattle.mono_combine.proofs.ListEndLemmas.{may_look, unspent_of, can_of, ended_can, ended_give_none}
+use Rattle.mono_combine.proofs.GivesLemmas.{out_given, row_before, each_fewer}
 use Rattle.mono_combine.proofs.select_list.SelectListTaskFuture.poll.Goals as goal
 
 pub look_round-requires-clause-may : goal.look_round-requires-clause-may
@@ -27,7 +27,7 @@ returns-in-Ready-clause-polled g c = (
 )
 
 pub returns-in-Ready-clause-callable : goal.returns-in-Ready-clause-callable
-returns-in-Ready-clause-callable g c = (ended_can g.T.TaskFuture _ _ _ _ c.end_each.ensures.ended, c.requires.callable.1)
+returns-in-Ready-clause-callable g c = (ended_can g.T.TaskFuture _ _ _ _ c.end_each.ensures.ended, λ number shown h. absurd (ended_give_none g.T.TaskFuture _ _ _ _ number shown.now c.end_each.ensures.ended h))
 
 pub returns-in-Pending-clause-polled : goal.returns-in-Pending-clause-polled
 returns-in-Pending-clause-polled g c = (
@@ -47,7 +47,7 @@ returns-in-Pending-clause-again g c =
     rw fresh (unspent_of g.T.TaskFuture _ c.look_round.ensures.again)
 
 pub returns-in-Pending-clause-callable : goal.returns-in-Pending-clause-callable
-returns-in-Pending-clause-callable g c = (can_of g.T.TaskFuture _ c.look_round.ensures.again, c.requires.callable.1)
+returns-in-Pending-clause-callable g c = (can_of g.T.TaskFuture _ c.look_round.ensures.again, each_fewer g.T.TaskFuture.gives g.G.Fn c.args.self.now.test _ _ c.look_round.ensures.narrows c.requires.callable.1)
 
 pub returns-in-Ready-clause-reached : goal.returns-in-Ready-clause-reached
 returns-in-Ready-clause-reached g c = g.met.C.Context.reaches_on _ _ _ c.look_round.ensures.reached c.end_each.ensures.reached
