@@ -1,1 +1,9 @@
 pub mod ServedLemmas
+pub mod BlockLemmas
+pub mod RoutingLemmas
+pub mod SplitLemmas
+pub mod LaneLemmas
+pub mod DispatchLemmas
+pub mod WayLemmas
+pub mod IntakeLemmas
+pub mod ExampleLemmas

@@ -3,3 +3,11 @@ pub mod CoreRuns
 pub mod Pasts
 pub mod Served
 pub mod Pages
+pub mod Blocks
+pub mod Dispatch
+pub mod Intakes
+pub mod Lanes
+pub mod Outlets
+pub mod Routing
+pub mod Splits
+pub mod Examples

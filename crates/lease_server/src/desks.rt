@@ -25,9 +25,16 @@ pub struct Desk {
 impl SharedState for Desk {
     ghost leads = { Leads };
 
+    #[inline(always)]
+    fn next_owed(&mut self) -> Option<u64> {
+        None
+    }
+
     ghost leads_itself = { leads_itself };
 
     ghost leads_on = { leads_on };
+
+    ghost lists_some = { λ a p t is. is };
 }
 
 impl Desk {

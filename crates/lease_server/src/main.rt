@@ -2,13 +2,21 @@
 #![tactic(auto)]
 
 mod batches;
+mod blocks;
 mod clocks;
 mod cores;
 mod desks;
+mod dispatchers;
+mod intakes;
+mod lanes;
+mod outlets;
 mod pages;
 mod pasts;
+mod refusals;
 mod router;
+mod rows;
 mod servers;
+mod splitters;
 mod status;
 mod words;
 mod writer;

@@ -8,7 +8,9 @@ ghost use Rattle.lease_server.specs.Desks.{HasRun};
 use crate::clocks::CoreClock;
 use crate::cores::{CoreEnds, CoreTask};
 use crate::desks::Desk;
-use crate::router::{Lane, Router, RouterEnds};
+use crate::dispatchers::Dispatcher;
+use crate::intakes::Intake;
+use crate::router::Router;
 use crate::status::{self, code, worse};
 use crate::words::Settings;
 use crate::writer::Writer;
@@ -122,24 +124,28 @@ fn zeros(alloc: Global, len: usize) -> Result<Vec<u8>, AllocError>
     vec![in alloc; 0u8; len]
 }
 
+// Returns a block of zeros. If out of memory, it is empty: then the router's first read fails.
+fn block(alloc: Global) -> Vec<u8> {
+    match zeros(alloc, BLOCK) {
+        Ok(block) => block,
+        Err(_) => Vec::new(alloc),
+    }
+}
+
 // Runs the router on a runtime of this thread.
 fn run_router<R: Host + Copy, S: Source + Drop>(
     rt: R,
     alloc: Global,
-    source: S,
-    ends: &mut RouterEnds,
+    intake: &mut Intake<S>,
 ) -> u64 {
-    match (
-        zeros(alloc, BLOCK),
-        ThreadDriver::new(alloc, SystemClock::new(rt)),
-    ) {
-        (Ok(block), Ok(driver)) => {
-            let task = Router::new(alloc, source, ends, block);
+    match ThreadDriver::new(alloc, SystemClock::new(rt)) {
+        Ok(driver) => {
+            let task = Router::new(intake);
             start::<_, _, _, NoPool, R>(&rt, alloc, driver, task, u64::MAX).unwrap_or(
                 status::MEMORY,
             )
         }
-        _ => status::MEMORY,
+        Err(_) => status::MEMORY,
     }
 }
 
@@ -150,23 +156,26 @@ fn start_core<R: Host + Copy + Send + 'static>(
     alloc: Global,
     number: u64,
     settings: &Settings,
-    ends: &mut RouterEnds,
+    dispatcher: &mut Dispatcher,
     threads: &mut Vec<JoinHandle<u64>>,
 ) -> u64 {
-    if ends.lanes.reserve(1).is_err() || threads.reserve(1).is_err() {
+    let Ok(_) = dispatcher.reserve() else {
+        return status::MEMORY;
+    };
+    if threads.reserve(1).is_err() {
         return status::MEMORY;
     }
     let Ok((mut sender, requests)) = channel(alloc, PLACES) else {
         return status::MEMORY;
     };
-    let Ok(texts) = ends.texts.try_clone(&rt) else {
+    let Ok(texts) = dispatcher.texts(&rt) else {
         return status::MEMORY;
     };
     let own = *settings;
     let theirs = CoreEnds { requests, texts };
     match thread::spawn(&rt, move || core_thread(rt, alloc, number, own, theirs)) {
         Ok(thread) => {
-            ends.lanes.push_reserved(Lane::new(alloc, sender));
+            dispatcher.add(alloc, sender);
             threads.push_reserved(thread);
             status::DONE
         }
@@ -183,11 +192,11 @@ fn start_cores<R: Host + Copy + Send + 'static>(
     rt: R,
     alloc: Global,
     settings: &Settings,
-    ends: &mut RouterEnds,
+    dispatcher: &mut Dispatcher,
     threads: &mut Vec<JoinHandle<u64>>,
 ) -> u64 {
     for number in 0..settings.cores {
-        let status = start_core(rt, alloc, number, settings, ends, threads);
+        let status = start_core(rt, alloc, number, settings, dispatcher, threads);
         if status != status::DONE {
             return status;
         }
@@ -203,16 +212,14 @@ fn route_all<R: Host + Copy + Send + 'static, S: Source + Drop>(
     source: S,
     texts: Sender<Vec<u8>, UnparkHandle>,
 ) -> u64 {
-    let mut ends = RouterEnds {
-        lanes: Vec::new(alloc),
-        texts,
-    };
+    let mut dispatcher = Dispatcher::new(alloc, texts);
     let mut threads = Vec::new(alloc);
-    let mut status = start_cores(rt, alloc, settings, &mut ends, &mut threads);
+    let mut status = start_cores(rt, alloc, settings, &mut dispatcher, &mut threads);
+    let mut intake = Intake::new(source, block(alloc), dispatcher);
     if status == status::DONE {
-        status = run_router(rt, alloc, source, &mut ends);
+        status = run_router(rt, alloc, &mut intake);
     }
-    ends.close(&rt);
+    intake.close(&rt);
     for thread in threads {
         status = worse(status, thread.join(&rt));
     }

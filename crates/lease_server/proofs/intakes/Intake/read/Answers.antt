@@ -1,0 +1,15 @@
+use Rattle.std.proofs.Common.{subst}
+use Rattle.lease_server.specs.Dispatch.{KeepsWays}
+use Rattle.lease_server.proofs.WayLemmas.{keeps_itself, keeps_on}
+use Rattle.lease_server.proofs.intakes.Intake.read.Goals as goal
+
+pub returns-then-not-can_read-clause-ways : goal.returns-then-not-can_read-clause-ways
+returns-then-not-can_read-clause-ways g c = keeps_itself c.args.self.now.splitter.dispatcher
+
+pub returns-in_err-take_lines-clause-ways : goal.returns-in_err-take_lines-clause-ways
+returns-in_err-take_lines-clause-ways g c = subst (λ d. KeepsWays d c.take_lines.new.self.dispatcher) c.read-outcome.ensures.same c.take_lines.ensures.ways
+
+pub returns-clause-ways : goal.returns-clause-ways
+returns-clause-ways g c =
+    keeps_on c.args.self.now.splitter.dispatcher c.take_lines.new.self.dispatcher c.end_if.new.self.splitter.dispatcher
+    (subst (λ d. KeepsWays d c.take_lines.new.self.dispatcher) c.read-outcome.ensures.same c.take_lines.ensures.ways) c.end_if.ensures.ways

@@ -1,0 +1,85 @@
+// The end of a channel, with the message that was not sent yet.
+ghost use Rattle.std.specs.Prelude.{◌≡◌, ◌++◌, ◌∷◌, [], true, IfOk, None};
+ghost use Rattle.mono_channel.specs.Ends.{sent_by, IsPair};
+ghost use Rattle.mono_channel.specs.Errors.{unsent};
+ghost use Rattle.lease_server.specs.Outlets.{passed, KeepsAll};
+
+use mono_channel::{SendError, Sender};
+use mono_rt::{Host, Poll, RemoteWaker, UnparkHandle};
+use std::alloc::AllocError;
+
+/// The end of a channel that sends, and the message that was not sent yet, if any.
+#[derive(Drop)]
+pub struct Outlet<M: Drop> {
+    sender: Sender<M, UnparkHandle>,
+    message: Option<M>,
+}
+
+// Returns the message that was not sent.
+fn message_of<M>(error: SendError<M>) -> M
+    ensures { result ≡ unsent error }
+{
+    match error {
+        SendError::Closed(message) => message,
+        SendError::Memory(message) => message,
+    }
+}
+
+impl<M: Drop> Outlet<M> {
+    /// Returns an outlet of this sender, with no message.
+    pub fn new(sender: Sender<M, UnparkHandle>) -> Outlet<M>
+        ensures sender { result.sender ≡ sender }
+        ensures passed { passed result ≡ sent_by sender }
+    {
+        Outlet {
+            sender,
+            message: None,
+        }
+    }
+
+    /// Closes the sender.
+    pub fn close<R: Host>(&mut self, rt: &R)
+        ensures { self.new ≡ self.old }
+    {
+        self.sender.close(rt);
+    }
+
+    /// Returns a further sender of the channel. Fails only if the count of owners cannot grow.
+    pub fn try_clone<R: Host>(&mut self, rt: &R) -> Result<Sender<M, UnparkHandle>, AllocError>
+        ensures kept { KeepsAll self.old self.new }
+        ensures further { IfOk result (λ sender. IsPair sender self.old.sender × (sent_by sender ≡ [])) }
+    {
+        self.sender.try_clone(rt)
+    }
+
+    /// Gives the outlet its next message.
+    pub fn put(&mut self, message: M)
+        requires { self.old.message ≡ None }
+        ensures same { IsPair self.new.sender self.old.sender }
+        ensures passed { passed self.new ≡ passed self.old ++ message ∷ [] }
+    {
+        self.message = Some(message);
+    }
+
+    /// Sends the message that was not sent yet, if any. Returns whether none is left: if not, the receiver wakes this
+    /// waker's task when it takes a message and when it closes the channel.
+    ///
+    /// Fails if the channel was closed or out of memory. The message stays in each case (`kept`).
+    pub fn flush<R: Host>(
+        &mut self,
+        rt: &R,
+        waker: &RemoteWaker<UnparkHandle>,
+    ) -> Result<bool, AllocError>
+        ensures kept { KeepsAll self.old self.new }
+        ensures sent { IfOk result (λ is_sent. is_sent ≡ true → self.new.message ≡ None) }
+    {
+        match self.sender.poll_send(rt, waker, &mut self.message) {
+            Poll::Pending => Ok(false),
+            Poll::Ready(Ok(())) => Ok(true),
+            Poll::Ready(Err(error)) => {
+                self.message = Some(message_of(error));
+                Err(AllocError)
+            }
+        }
+    }
+}

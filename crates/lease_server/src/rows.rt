@@ -1,0 +1,27 @@
+// Examples of what lines ask, and which core gets it.
+ghost use Rattle.lease_server.specs.Examples.{SmallAsks, SmallRoutes, AsksNot, RoutesNot, ManyAsk};
+
+/// Shows what five lines ask. One spells no request, and one has no line feed.
+pub fn small_asks()
+    ensures { SmallAsks }
+{}
+
+/// Shows which of two cores gets each of these requests, and the text of the refusals.
+pub fn small_routes()
+    ensures { SmallRoutes }
+{}
+
+/// Shows that two lines do not ask their requests swapped, by one number, or without one of them.
+pub fn asks_not()
+    ensures { AsksNot }
+{}
+
+/// Shows that a core does not get its requests in another order, or those of another core.
+pub fn routes_not()
+    ensures { RoutesNot }
+{}
+
+/// Shows what a thousand lines ask, and that each of four cores gets about a quarter.
+pub fn many_ask()
+    ensures { ManyAsk }
+{}
