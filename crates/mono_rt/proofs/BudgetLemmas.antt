@@ -49,7 +49,7 @@ remotes_same (t ∷ ts) old new part rest (told, (mid, (left, (is, step, more)))
     let after = remotes_same ts mid new left rest more in
     (ap turns_in is ∙ after.0, ap parks_in is ∙ after.1)
 
-drained_same : (old new : Machine) (part rest : List Entry) → Drained old part new rest → Same part rest
+pub drained_same : (old new : Machine) (part rest : List Entry) → Drained old part new rest → Same part rest
 drained_same old new part rest d =
     let before = remotes_same d.taken old d.mid part d.left d.remotes in
     (before.0 ∙ ap turns_in d.entry, before.1 ∙ ap parks_in d.entry)
@@ -58,7 +58,7 @@ clock_same : (h : Bool) (old new : Machine) (part rest : List Entry) → ClockIf
 clock_same false old new part rest (is, same) = same_as part rest is
 clock_same true old new part rest (n, (fired, (is, step))) = (ap turns_in is, ap parks_in is)
 
-parks_one : (h : Bool) (old new : Machine) (part rest : List Entry) → Parks h old part new rest → (turns_in part ≡ turns_in rest) × (parks_in part ≡ 1 + parks_in rest)
+pub parks_one : (h : Bool) (old new : Machine) (part rest : List Entry) → Parks h old part new rest → (turns_in part ≡ turns_in rest) × (parks_in part ≡ 1 + parks_in rest)
 parks_one h old new part rest p =
     let entries = p.parks.1.1.1.0 in
     let more = on p.left p.after rest (drained_same p.parked p.drained p.left p.after p.drains) (clock_same h p.drained new p.after rest p.clock) in

@@ -12,6 +12,7 @@ use Rattle.mono_model.specs.Inbox.{is_waiting, with_waiting}
 use Rattle.mono_model.specs.declared.task_error.TaskError.{TaskError}
 use Rattle.mono_model.specs.declared.task_error.TaskError.TheVariants.{NoTask}
 use Rattle.mono_task.specs.Work.{has_finished, over_answer}
+use Rattle.mono_inbox.specs.State.{State, with_list}
 use Rattle.mono_machine.specs.Machine.{Machine, with_tasks, with_inbox}
 use Rattle.mono_machine.specs.Steps.{remote_report, after_remote}
 use Rattle.mono_machine.specs.Steps.{has_finished as machine_finished}
@@ -190,3 +191,7 @@ longer_by (Some task) tasks t = longer_in task.phase tasks t task
 pub longer : {O : Type 0} (tasks : Tasks O) (ts : List ℕ) → length tasks.queue ≤ length (all_woken tasks ts).queue
 longer tasks [] = le_refl _
 longer tasks (t ∷ ts) = omega (arith, longer_by (value_at tasks.table t) tasks t, longer (woken tasks t) ts)
+
+-- an inbox in which no task waits is left as it is by a drain
+pub none_left : (s : State) → s.waiting ≡ [] → s ≡ with_list s []
+none_left s none = ap (λ ts. with_list s ts) none

@@ -9,13 +9,14 @@ use Rattle.mono_rt.specs.Stores.{store_of}
 use Rattle.mono_rt.specs.FuturePolls.{HasLasted, PollingBy, Lasts}
 use Rattle.mono_rt.specs.SpawnErrors.{HasPlace}
 use Rattle.mono_rt.specs.DriverReadings.{going, Telling, Still}
-use Rattle.mono_rt.specs.Views.{exposed, is_timed, Rests, Grows, GivesNoMore, CanRun, LeadsShared, PollsItsFuturesBy, FillsJournal, HoldsSamePlaces, TellsDriver}
+use Rattle.mono_rt.specs.Views.{exposed, is_timed, Rests, Grows, RaisesTurns, GivesNoMore, CanRun, LeadsShared, PollsItsFuturesBy, FillsJournal, HoldsSamePlaces, TellsDriver}
 use Rattle.mono_rt.specs.Progress.{ending, lasting, turn_answer, Idles, Proceeds}
 use Rattle.mono_rt.specs.declared.contexts.Cx.{Cx}
 use Rattle.mono_rt.specs.declared.runtimes.Runtime.{Runtime}
 use Rattle.mono_rt.specs.declared.parts.errors.RunError.{RunError}
 use Rattle.mono_rt.specs.declared.parts.errors.RunError.TheVariants as error
-use Rattle.mono_rt.proofs.JournalLemmas.{goes_of}
+use Rattle.mono_rt.proofs.JournalLemmas.{goes_of, does_stay}
+use Rattle.mono_rt.proofs.TurnCountLemmas.{counts_stays, counts_on, counts_pause}
 use Rattle.mono_rt.proofs.DriverLemmas.{telling_more, unfailed, so_after, so_done, so_spent, so_broken, still_of}
 use Rattle.mono_rt.proofs.FaultLemmas.{faults_after}
 use Rattle.mono_rt.proofs.FuturePollLemmas.{same_store, polls_on, polls_nothing, polls_pause}
@@ -50,6 +51,7 @@ module _ {F O D P W U J A V : Type 0} where
   idles_on a b c p q = record {
     has_timers = q.has_timers ∙ p.has_timers;
     turn = q.turn ∙ p.turn;
+    turns = q.turns ∙ p.turns;
     adds = adds_on a.cx.parts.tasks.tasks b.cx.parts.tasks.tasks c.cx.parts.tasks.tasks p.adds q.adds;
     futures = q.futures ∙ p.futures;
     shared = q.shared ∙ p.shared;
@@ -63,6 +65,7 @@ module _ {F O D P W U J A V : Type 0} where
     went_nowhere itself a = record {
       has_timers = refl;
       rests = λ x. x;
+      turns = counts_stays number a.cx.parts a.cx.parts a.journal a.journal refl (does_stay number a.cx.parts a.cx.parts a.journal a.journal refl refl refl refl refl);
       answers = no_more_itself future.gives a.cx;
       callable = λ x. x;
       shared = itself a.cx.shared;
@@ -80,6 +83,7 @@ module _ {F O D P W U J A V : Type 0} where
     went_on on r a b c p q = record {
       has_timers = q.has_timers ∙ p.has_timers;
       rests = λ x. q.rests (p.rests x);
+      turns = counts_on number a.cx.parts b.cx.parts c.cx.parts a.journal b.journal c.journal p.turns q.turns;
       answers = no_more_on future.gives a.cx b.cx c.cx p.answers q.answers;
       callable = λ x. q.callable (p.callable x);
       shared = on a.cx.shared b.cx.shared c.cx.shared p.shared q.shared;
@@ -98,6 +102,7 @@ module _ {F O D P W U J A V : Type 0} where
     went_spent a b p = record {
       has_timers = p.has_timers;
       rests = p.rests;
+      turns = p.turns;
       answers = p.answers;
       callable = p.callable;
       shared = p.shared;
@@ -110,13 +115,14 @@ module _ {F O D P W U J A V : Type 0} where
     }
 
     -- a turn, by whether memory ran out in it
-    pub went_turn : (lacks : Bool) (a b : Runtime F O D P W U J A V) → is_timed b ≡ is_timed a → (Rests a → Rests b) → GivesNoMore future.gives a b → (CanRun future a → CanRun future b) → LeadsShared sharing.leads a b
+    pub went_turn : (lacks : Bool) (a b : Runtime F O D P W U J A V) → is_timed b ≡ is_timed a → (Rests a → Rests b) → RaisesTurns number a b → GivesNoMore future.gives a b → (CanRun future a → CanRun future b) → LeadsShared sharing.leads a b
         → ((lasts : Bool) → HasLasted lasts lacks → PollsItsFuturesBy number sharing future lasts a b) → clock.faults b.driver ≡ clock.faults a.driver
         → Telling (Still going) (exposed clock a.driver) going a.journal b.journal (exposed clock b.driver) → FillsJournal number sharing future a b → HoldsSamePlaces a b
         → Proceeds number sharing clock future (lasting (turn_answer lacks)) a b
-    went_turn true a b has_timers rests answers callable shared polled faults told full held = record {
+    went_turn true a b has_timers rests turns answers callable shared polled faults told full held = record {
       has_timers = has_timers;
       rests = rests;
+      turns = turns;
       answers = answers;
       callable = callable;
       shared = shared;
@@ -127,9 +133,10 @@ module _ {F O D P W U J A V : Type 0} where
       held = held;
       placed = tt;
     }
-    went_turn false a b has_timers rests answers callable shared polled faults told full held = record {
+    went_turn false a b has_timers rests turns answers callable shared polled faults told full held = record {
       has_timers = has_timers;
       rests = rests;
+      turns = turns;
       answers = answers;
       callable = callable;
       shared = shared;
@@ -150,6 +157,7 @@ module _ {F O D P W U J A V : Type 0} where
         record {
           has_timers = idle.has_timers;
           rests = λ x. idle.turn ∙ x;
+          turns = counts_pause number (is_timed a) r a.cx.parts b.cx.parts a.journal b.journal idle.turns pauses;
           answers = answers;
           callable = turn_same future future.gives a.cx b.cx answers items;
           shared = subst (sharing.leads a.cx.shared) (sym idle.shared) (itself a.cx.shared);

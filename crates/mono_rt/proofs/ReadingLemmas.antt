@@ -1,18 +1,25 @@
 -- The journal's readings and submits are those of the driver.
 use Rattle.std.proofs.Common.{◌≡◌, ◌≤◌, ◌+◌, ◌*◌, ℕ, Bool, true, false, List, [], ◌∷◌, Some, None, Option, refl, ap, sym, subst, ◌∙◌, arith, inl, inr}
-use Rattle.std.specs.Prelude.{min, ◌-◌, ◌^◌, Result, Err}
+use Rattle.std.specs.Prelude.{min, ◌-◌, ◌^◌, ◌++◌, Result, Ok, Err}
 use Rattle.mono_model.specs.Ticks.{max_nanos}
-use Rattle.mono_driver.specs.Drivers.{Reads, ReadsTime}
+use Rattle.mono_driver.specs.Drivers.{Reads, ReadsTime, one_more}
 use Rattle.mono_machine.specs.declared.events.Event.{Event}
 use Rattle.mono_machine.specs.declared.events.Event.TheVariants as event
+use Rattle.mono_machine.specs.Machine.{Machine}
+use Rattle.mono_machine.specs.declared.events.Report.{Report}
+use Rattle.mono_machine.specs.declared.events.Report.TheVariants as report
+use Rattle.mono_rt.specs.Budgets.{parks_in}
+use Rattle.mono_rt.specs.DriverCounts.{ParksCounted, HandsInOnce, ParksOnce}
+use Rattle.mono_rt.specs.Rounds.{Remotes, Drained, ClockIf, Parks}
 use Rattle.mono_rt.specs.Faults.{RisesIf}
 use Rattle.mono_rt.specs.Readings.{readings_in, hand_ins_from, AreFirst, time_after, AreSums}
-use Rattle.mono_rt.specs.DriverReadings.{Told, Course, going, parked, failed, IsMet, IsDrained, IsSureIf, Tells, EndsBy, EndsSo, IsTold, after_park, after_call, parked_time}
+use Rattle.mono_rt.specs.DriverReadings.{Told, Course, going, parked, failed, IsMet, IsDrained, IsSureIf, Tells, EndsBy, EndsSo, TellingSo, IsHandedIn, IsTold, after_park, after_call, parked_time}
 use Rattle.mono_rt.proofs.DriverLemmas.{drained_reads, drained_time}
 use Rattle.mono_rt.specs.declared.parts.errors.RunError.{RunError}
 use Rattle.mono_rt.specs.declared.parts.errors.RunError.TheVariants as error
 use Rattle.mono_rt.specs.declared.parts.journals.Entry.{Entry}
 use Rattle.mono_rt.specs.declared.parts.journals.Entry.TheVariants.{Ran, Now, Park}
+use Rattle.mono_rt.specs.declared.parts.journals.Journal.{Journal}
 
 -- one reading of a list
 first_read : (readings : List ℕ) (n : ℕ) (left : Option (List ℕ)) → Reads (Some readings) n left → (rest : List ℕ) × ((left ≡ Some rest) × ((values : List ℕ) → AreFirst values rest → AreFirst (n ∷ values) readings))
@@ -184,3 +191,89 @@ pub sure_answer : (answer : Result ℕ RunError) (old : Told) (part : List Entry
 sure_answer answer old part sure told is =
     let stays = sure_goes old told.last told.after part sure told.tells in
     sure_ends told.after told.last told.new stays.0 stays.2 (subst (λ a. EndsSo a told.after told.last told.new) is told.ends)
+
+-- the count of parks
+drained_parks : (p q : Course) (a b : Told) → IsDrained p a q b → b.parks ≡ a.parks
+drained_parks going q a b (has_failed, (is, at)) = is.parks
+drained_parks parked q a b (same, at) = ap (λ x. x.parks) same
+drained_parks failed q a b (same, at) = ap (λ x. x.parks) same
+
+met_parks : (e : Event) (p q : Course) (a b : Told) → IsMet e a p b q → b.parks ≡ a.parks
+met_parks (event.Act act) p q a b (same, at) = ap (λ x. x.parks) same
+met_parks (event.Turn steps end) p q a b (same, at) = ap (λ x. x.parks) same
+met_parks (event.Clock n) p q a b (read, at) = read.parks
+met_parks (event.Remote t) p q a b (same, at) = ap (λ x. x.parks) same
+met_parks event.Drain p q a b drained = drained_parks p q a b drained
+
+parks_same : (a mid b h : ℕ) → mid ≡ a → b ≡ min (mid + h) (2 ^ 64 - 1) → b ≡ min (a + h) (2 ^ 64 - 1)
+parks_same a mid b h same more = omega (arith, same, more)
+
+pub parked_in_order : (a b : Told) (p q : Course) (part : List Entry) → a.parks ≤ 2 ^ 64 - 1 → Tells a p part b q → b.parks ≡ min (a.parks + parks_in part) (2 ^ 64 - 1)
+parked_in_order a b p q [] below (same, is) = still_counted a.parks b.parks below (ap (λ x. x.parks) same)
+parked_in_order a b p q (Now n ∷ part) below (at, (mid, (read, rest))) =
+    parks_same a.parks mid.parks b.parks (parks_in part) read.parks (parked_in_order mid b going q part (below_by a.parks mid.parks read.parks below) rest)
+parked_in_order a b p q (Park w ∷ part) below (at, (mid, (has_failed, (is, rest)))) =
+    one_handed a.parks mid.parks b.parks (parks_in part) is.parks (parked_in_order mid b (after_park has_failed) q part (below_one a.parks mid.parks is.parks) rest)
+parked_in_order a b p q (Ran e r ∷ part) below (mid, (next, (met, rest))) =
+    let same = met_parks e p next a mid met in
+    parks_same a.parks mid.parks b.parks (parks_in part) same (parked_in_order mid b next q part (below_by a.parks mid.parks same below) rest)
+
+-- a submit whose drain did not come parks nobody
+ended_parks : {A : Type 0} (r : Result A RunError) (c : Course) (last new : Told) → EndsSo r c last new → new.parks ≡ last.parks
+ended_parks (Ok x) c last new (at, same) = ap (λ t. t.parks) same
+ended_parks (Err error.Turns) c last new (at, same) = ap (λ t. t.parks) same
+ended_parks (Err error.AtCapacity) c last new (at, same) = ap (λ t. t.parks) same
+ended_parks (Err error.Driver) c last new (inl (at, same)) = ap (λ t. t.parks) same
+ended_parks (Err error.Driver) c last new (inr (at, is)) = is.parks
+ended_parks (Err error.Memory) c last new (inl (at, same)) = ap (λ t. t.parks) same
+ended_parks (Err error.Memory) c last new (inr (at, is)) = is.parks
+
+pub parks_called : {A : Type 0} (r : Result A RunError) (old new : Told) (j k : Journal) → old.parks ≤ 2 ^ 64 - 1 → TellingSo r old j k new → ParksCounted old new j k
+parks_called r old new j k below called =
+    let tells = called.telling.tells in
+    record {
+      part = tells.0;
+      grew = tells.1.1.0;
+      parks = ended_parks r tells.1.0 called.last new tells.1.1.1.0 ∙ parked_in_order old called.last going tells.1.0 tells.0 below tells.1.1.1.1;
+    }
+
+-- what other threads woke is no call of the driver
+remotes_pass : (ts : List ℕ) (m mid : Machine) (part left : List Entry) (a b : Told) (p q : Course) → Remotes ts m part mid left → Tells a p part b q → Tells a p left b q
+remotes_pass [] m mid part left a b p q (is, same) tells = subst (λ xs. Tells a p xs b q) is tells
+remotes_pass (t ∷ ts) m mid part left a b p q (told, (next, (more, (is, step, rest)))) tells =
+    let met = subst (λ xs. Tells a p xs b q) is tells in
+    remotes_pass ts next mid more left a b p q rest (subst (λ x. Tells x p more b q) met.1.1.0.0 (subst (λ c. Tells met.0 c more b q) met.1.1.0.1 met.1.1.1))
+
+drained_pass : (m n : Machine) (part rest : List Entry) (a b : Told) (p q : Course) → (is : Drained m part n rest) → Tells a p part b q → Tells a p (Ran event.Drain (report.Drained is.listed) ∷ rest) b q
+drained_pass m n part rest a b p q is tells = subst (λ xs. Tells a p xs b q) is.entry (remotes_pass is.taken m is.mid part is.left a b p q is.remotes tells)
+
+pub hands_in_once : (a b : Told) (q : Course) (m n : Machine) (part : List Entry) → Drained m part n [] → Tells a going part b q → HandsInOnce a b
+hands_in_once a b q m n part is tells =
+    let drained = drained_pass m n part [] a b going q is tells in
+    record { has_failed = drained.1.1.0.0; handed = subst (λ x. IsHandedIn drained.1.1.0.0 a x) (sym drained.1.1.1.0) drained.1.1.0.1.0 }
+
+drained_after_park : (has_failed : Bool) (a b : Told) (q : Course) → IsDrained (after_park has_failed) a q b → b ≡ a
+drained_after_park true a b q (same, at) = same
+drained_after_park false a b q (same, at) = same
+
+clock_counts : (has_timers : Bool) (m n : Machine) (part : List Entry) (a b : Told) (p q : Course) → ClockIf has_timers m part n [] → Tells a p part b q → (b.parks ≡ a.parks) × (b.submits ≡ a.submits)
+clock_counts false m n part a b p q (is, same) tells =
+    let ended = subst (λ xs. Tells a p xs b q) is tells in
+    (ap (λ x. x.parks) ended.0, ap (λ x. x.submits) ended.0)
+clock_counts true m n part a b p q (c, (fired, (is, step))) tells =
+    let read = subst (λ xs. Tells a p xs b q) is tells in
+    (ap (λ x. x.parks) read.1.1.1.0 ∙ read.1.1.0.0.parks, ap (λ x. x.submits) read.1.1.1.0 ∙ read.1.1.0.0.submits)
+
+pub parks_once : (has_timers : Bool) (a b : Told) (q : Course) (m n : Machine) (part : List Entry) → Parks has_timers m part n [] → Tells a going part b q → ParksOnce a b
+parks_once has_timers a b q m n part is tells =
+    let entries = is.parks.1.1.1.0 in
+    let read = subst (λ xs. Tells a going xs b q) entries tells in
+    let parked = read.1.1.1.1 in
+    let has_failed = parked.1.0 in
+    let drained = drained_pass is.parked is.drained is.left is.after parked.0 b (after_park has_failed) q is.drains parked.1.1.1 in
+    let same = drained_after_park has_failed parked.0 drained.0 drained.1.0 drained.1.1.0 in
+    let ends = clock_counts has_timers is.drained n is.after drained.0 b drained.1.0 q is.clock drained.1.1.1 in
+    record {
+      parks = ends.0 ∙ ap (λ x. x.parks) same ∙ parked.1.1.0.parks ∙ ap one_more read.1.1.0.parks;
+      submits = ends.1 ∙ ap (λ x. x.submits) same ∙ parked.1.1.0.submits ∙ read.1.1.0.submits;
+    }

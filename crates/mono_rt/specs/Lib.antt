@@ -34,3 +34,6 @@ pub mod Views
 pub mod Progress
 pub mod EndedTasks
 pub mod Remains
+pub mod DriverCounts
+pub mod SpentFutures
+pub mod TurnCounts

@@ -11,7 +11,7 @@ use Rattle.mono_rt.specs.Outputs.{AddsNone}
 use Rattle.mono_rt.specs.SpawnErrors.{HasPlace, OnCapacity, OnMemory}
 use Rattle.mono_rt.specs.Journals.{Stays}
 use Rattle.mono_rt.specs.Rounds.{IsSpawn, IsRefused}
-use Rattle.mono_rt.specs.Views.{tasks_of, futures_of, turn_of, is_timed, shared_of, Rests, Grows, GivesNoMore, CanRun, LeadsShared, PollsItsFuturesBy, FillsJournal, HoldsSamePlaces, TellsDriver}
+use Rattle.mono_rt.specs.Views.{tasks_of, futures_of, turn_of, turns_begun, is_timed, shared_of, Rests, Grows, RaisesTurns, GivesNoMore, CanRun, LeadsShared, PollsItsFuturesBy, FillsJournal, HoldsSamePlaces, TellsDriver}
 use Rattle.mono_rt.specs.declared.contexts.Cx.{Cx}
 use Rattle.mono_rt.specs.declared.runtimes.Runtime.{Runtime}
 use Rattle.mono_rt.specs.declared.parts.errors.RunError.{RunError}
@@ -37,6 +37,7 @@ module _ {F O D P W U J A V : Type 0} where
   pub record Idles (old new : Runtime F O D P W U J A V) : Type 0 where
     pub has_timers : is_timed new ≡ is_timed old
     pub turn : turn_of new ≡ turn_of old
+    pub turns : turns_begun new ≡ turns_begun old
     pub adds : AddsNone (tasks_of old) (tasks_of new)
     pub futures : new.cx.futures ≡ old.cx.futures
     pub shared : shared_of new ≡ shared_of old
@@ -65,6 +66,7 @@ module _ {F O D P W U J A V : Type 0} where
     pub record Proceeds (answer : Result ⊤ RunError) (old new : Runtime F O D P W U J A V) : Type 0 where
       pub has_timers : is_timed new ≡ is_timed old
       pub rests : Rests old → Rests new
+      pub turns : RaisesTurns number old new
       pub answers : GivesNoMore future.gives old new
       pub callable : CanRun future old → CanRun future new
       pub shared : LeadsShared sharing.leads old new

@@ -15,7 +15,8 @@ module _ {F O D P W U J A V : Type 0} where
   abbrev pub KeepsStrategy : (O → ℕ) → Runtime F O D P W U J A V → Runtime F O D P W U J A V → Type 0
   KeepsStrategy number old new = (m : Machine) → Matches number hosting_of old.cx.parts m → strategy_of new.cx.parts.blocking.pool ≡ strategy_of old.cx.parts.blocking.pool
 
-  -- The inbox was told of each task that ended: none is left to be made unknown.
+  -- No task that ended waits to be made unknown. That each task that ends waits for it is clause `closed` of
+  -- `Cx::complete_turn`; that each that waits is made unknown is clause `retired` of `Wakers::retire_ended`.
   abbrev pub HasRetired : Runtime F O D P W U J A V → Type 0
   HasRetired r = r.cx.wakers.ended.items ≡ []
 

@@ -12,6 +12,7 @@ use Rattle.mono_task.specs.Work.{without_outputs}
 use Rattle.mono_time.specs.Sleeps.{SleepTable}
 use Rattle.mono_time.specs.Timers.{sleeps_of, registered_of}
 use Rattle.mono_time.specs.Instants.{nanos_of}
+use Rattle.mono_time.specs.declared.instant.Instant.{Instant}
 use Rattle.mono_machine.specs.Machine.{Machine, start_machine}
 use Rattle.mono_machine.specs.Steps.{Run}
 use Rattle.mono_machine.specs.declared.events.Limits.{Limits}
@@ -24,6 +25,7 @@ use Rattle.mono_rt.specs.Spawns.{noted_spawn, lacks_spawn, SpawnsTask}
 use Rattle.mono_rt.specs.Handles.{PollsHandle, DropsHandle}
 use Rattle.mono_rt.specs.TaskWaits.{row_of, task_waits}
 use Rattle.mono_rt.specs.Rounds.{Blocked}
+use Rattle.mono_rt.specs.TurnCounts.{CountsTurns}
 use Rattle.mono_rt.specs.Numbering.{answer_numbered}
 use Rattle.mono_rt.specs.declared.task_waits.TaskWait.{TaskWait}
 use Rattle.mono_rt.specs.Refinement.{hosting_of, Matches}
@@ -108,6 +110,10 @@ module _ {F O D P W U J A V : Type 0} where
   abbrev pub turn_of : Runtime F O D P W U J A V → Option ℕ
   turn_of r = r.cx.parts.tasks.turn
 
+  -- How many turns have begun, at most 2^64 - 1.
+  abbrev pub turns_begun : Runtime F O D P W U J A V → ℕ
+  turns_begun r = r.cx.parts.tasks.turns
+
   -- No task's turn runs.
   abbrev pub Rests : Runtime F O D P W U J A V → Type 0
   Rests r = r.cx.parts.tasks.turn ≡ None
@@ -115,6 +121,10 @@ module _ {F O D P W U J A V : Type 0} where
   -- The clock's last reading is 0, and no task had a turn.
   abbrev pub IsAtZero : Runtime F O D P W U J A V → Type 0
   IsAtZero r = (r.cx.parts.me ≡ 0) × (nanos_of r.cx.parts.now ≡ 0)
+
+  -- The clock's last reading is this one, and no task had a turn.
+  abbrev pub IsFirstAt : Instant → Runtime F O D P W U J A V → Type 0
+  IsFirstAt start r = (r.cx.parts.me ≡ 0) × (r.cx.parts.now ≡ start)
 
   -- Each task's future stands under the task's number.
   abbrev pub HasOwnFutures : Runtime F O D P W U J A V → Type 0
@@ -131,6 +141,10 @@ module _ {F O D P W U J A V : Type 0} where
   -- The history grew by entries in this relation, from each machine that the runtime refined.
   abbrev pub Grows : (O → ℕ) → (Machine → List Entry → Machine → List Entry → Type 0) → Runtime F O D P W U J A V → Runtime F O D P W U J A V → Type 0
   Grows number R old new = Does number R old.cx.parts new.cx.parts old.journal new.journal
+
+  -- The count of turns rose by the turns by which the history grew.
+  abbrev pub RaisesTurns : (O → ℕ) → Runtime F O D P W U J A V → Runtime F O D P W U J A V → Type 0
+  RaisesTurns number old new = Grows number (CountsTurns (turns_begun old) (turns_begun new)) old new
 
   -- The history grew by what `Blocked` specifies for this answer, and the answer's number is that of its output.
   abbrev pub Blocks : (O → ℕ) → ℕ → Result O RunError → Runtime F O D P W U J A V → Runtime F O D P W U J A V → Type 0

@@ -34,6 +34,8 @@ use std::alloc::{AllocError, Global};
 /// Each turn of the history is one poll of its task's own future, from the futures that the turns before it left
 /// (`polled`). If the answer is Memory, this holds of the turn in which memory ran out, too (`still_polled`).
 ///
+/// The tasks share nothing, so no clause is about what a park finds in the shared value (`listed` of `block_on`).
+///
 /// The future can be polled, and so can each that a turn spawns (`callable`, `others`).
 pub fn run_alone<F, O, D, P, R: Host>(
     rt: &R,
@@ -41,7 +43,6 @@ pub fn run_alone<F, O, D, P, R: Host>(
     driver: D,
     pool: BlockingHandle<P>,
     limits: Limits,
-    start: Instant,
     future: F,
     turns: u64,
 ) -> Result<(Result<O, RunError>, Journal), AllocError>
@@ -61,7 +62,7 @@ where
     ensures still_polled { IfOk result (λ r. StillPollsFrom O.output_number sharing_nothing F.TaskFuture future (start_machine limits (strategy_of pool)) tt r) }
     ensures full { IfOk result (λ r. r.1.is_full ≡ true → IsOneLong O.output_number sharing_nothing F.TaskFuture) }
 {
-    let mut runtime = Runtime::new(alloc, driver, pool, limits, true, start, ())?;
+    let mut runtime = Runtime::new(alloc, driver, pool, limits, true, Instant::ZERO, ())?;
     let answer = runtime.block_on(rt, alloc, future, turns);
     Ok((answer, runtime.into_journal()))
 }

@@ -11,7 +11,7 @@ ghost use Rattle.mono_rt.specs.Pollable.{CanTurn};
 ghost use Rattle.mono_rt.specs.Remains.{KeepsContext, KeepsStrategy, HasRetired};
 ghost use Rattle.mono_rt.specs.DriverReadings.{going, Telling, Still, EndsWaited};
 ghost use Rattle.mono_rt.specs.Progress.{ending, lasting, Idles, Proceeds, MakesMain, MakesNone};
-ghost use Rattle.mono_rt.specs.Views.{exposed, Blocks, Rests, HasOwnFutures, is_at_limit, HoldsSamePlaces, GivesNoMore, LeadsShared, TellsDriver, PollsMainTask, StillPollsMainTask, FindsTasksListedMain, FillsJournal, CanRun};
+ghost use Rattle.mono_rt.specs.Views.{exposed, Blocks, Rests, RaisesTurns, HasOwnFutures, is_at_limit, HoldsSamePlaces, GivesNoMore, LeadsShared, TellsDriver, PollsMainTask, StillPollsMainTask, FindsTasksListedMain, FillsJournal, CanRun};
 
 use crate::contexts::Cx;
 use crate::parts::RunError;
@@ -105,6 +105,7 @@ impl<F: Drop, O: Outcome + Drop, D: Driver, P: ThreadPool + Drop, W: SharedState
         ensures untouched { IfRefused result (self.new.cx ≡ self.old.cx) }
         ensures has_timers { self.new.cx.parts.has_timers ≡ self.old.cx.parts.has_timers }
         ensures turn { self.new.cx.parts.tasks.turn ≡ self.old.cx.parts.tasks.turn }
+        ensures turns { self.new.cx.parts.tasks.turns ≡ self.old.cx.parts.tasks.turns }
         ensures shared { self.new.cx.shared ≡ self.old.cx.shared }
         ensures faults { D.faults self.new.driver ≡ D.faults self.old.driver }
         ensures told { Telling (Still going) (exposed D.Clock self.old.driver) going self.old.journal self.new.journal (exposed D.Clock self.new.driver) }
@@ -215,6 +216,9 @@ where
     /// Runs the future as the main task until it is ready, with a budget of `turns`. Each turn costs one, and so does
     /// each wait after which no task is queued.
     ///
+    /// The history is the list of all that the calls of `block_on` and `run_until` did. `spawn`, `poll_join` and `drop_join`
+    /// add nothing to it; this call goes on from the machine that they left.
+    ///
     /// The history grows by the entries that `Blocked` specifies for the answer, from each machine that the parts
     /// refined. They are a run of the machine (`blocked`). The history exists whether or not a journal is kept; a
     /// journal that is not full equals it (`Journal::kept`). If the answer is Memory, nothing was done, or the main
@@ -231,13 +235,22 @@ where
     /// memory. It is parked and read as the history says, and after a call of it that failed it gets no further one but a
     /// reading (`told`).
     ///
+    /// A task may take the main task's output, or drop its handle, through its context. No Ok answer comes then: the call
+    /// goes on as for an unfinished main task (`blocked`). It answers Turns once the budget is spent, and waits for ever
+    /// if a park does. The same comes of a main future that is spent.
+    ///
     /// Each turn of the history is one poll of its task's own future, from the futures that the turns before it left
-    /// (`polled`). If the answer is Memory, this holds of the turn in which memory ran out, too (`still_polled`). The answer is Driver if and only if the driver's count of faults rose in
+    /// (`polled`). A future that is spent is not polled: its turn ends pending, with no act but the wakes that the shared
+    /// value owed (law `a_spent_future_is_not_polled`). If the answer is Memory, this holds of the turn in which memory ran out, too (`still_polled`). The answer is Driver if and only if the driver's count of faults rose in
     /// this call, also if memory ran out after that (`faults`).
+    ///
+    /// The runtime's count of turns rises by the turns of the history (`turns`).
     ///
     /// Whom the shared value owes a wake after a poll, the runtime wakes before the turn ends. So at each park the value
     /// owes nothing, and each unfinished task whose last turn left it listed in the value is listed there still
     /// (`listed`).
+    ///
+    /// Unless memory ran out, no task that ended waits to be made unknown to the inbox (`retired`).
     ///
     /// An Ok value is one that the main future gives, if each future has its task's number (`given`). No task may
     /// answer more afterwards than it might before (`answers`).
@@ -272,6 +285,7 @@ where
         ensures shared { LeadsShared W.leads self.old self.new }
         ensures retired { OnMain result (HasRetired self.new) }
         ensures rests { Rests self.new }
+        ensures turns { RaisesTurns O.output_number self.old self.new }
         ensures polled { OnMain result (PollsMainTask O.output_number W.SharedState F.TaskFuture future self.old self.new) }
         ensures still_polled { OnLack result (StillPollsMainTask O.output_number W.SharedState F.TaskFuture future self.old self.new) }
         ensures listed { OnMain result (FindsTasksListedMain O.output_number W.SharedState F.TaskFuture future self.old self.new) }

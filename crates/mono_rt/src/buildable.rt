@@ -1,7 +1,7 @@
 // How a runtime is made from its parts.
-ghost use Rattle.std.specs.Prelude.{◌≡◌, ℕ, IfOk, None, false, []};
+ghost use Rattle.std.specs.Prelude.{◌≡◌, ℕ, IfOk, IfErr, None, false, []};
 ghost use Rattle.mono_blocking.specs.JobSpawns.{strategy_of};
-ghost use Rattle.mono_rt.specs.Views.{RefinesStart, futures_of, shared_of, jobs_of, is_timed, registered_in, Rests};
+ghost use Rattle.mono_rt.specs.Views.{RefinesStart, futures_of, shared_of, jobs_of, is_timed, registered_in, Rests, IsFirstAt};
 
 use crate::builder::{ENTRIES, RuntimeBuilder};
 use crate::parts::Journal;
@@ -12,7 +12,7 @@ use mono_joinword::Outcome;
 use mono_machine::Limits;
 use mono_task::SharedState;
 use mono_time::Instant;
-use std::alloc::{AllocError, Global};
+use std::alloc::{AllocFailed, Global};
 
 impl<F: Drop, O: Outcome + Drop, D: Driver, P: ThreadPool + Drop, W: SharedState + Drop> Runtime<
     F,
@@ -22,7 +22,8 @@ impl<F: Drop, O: Outcome + Drop, D: Driver, P: ThreadPool + Drop, W: SharedState
     W,
 > {
     /// Makes a runtime with a journal, whose tasks share this value. It refines the start machine with the pool's
-    /// strategy.
+    /// strategy. Before the first turn its context's reading is `start`, and no task had a turn (`first`). Hands the
+    /// shared value back if out of memory (`back`).
     pub fn new(
         alloc: Global,
         driver: D,
@@ -31,8 +32,9 @@ impl<F: Drop, O: Outcome + Drop, D: Driver, P: ThreadPool + Drop, W: SharedState
         has_timers: bool,
         start: Instant,
         shared: W,
-    ) -> Result<Runtime<F, O, D, P, W>, AllocError>
+    ) -> Result<Runtime<F, O, D, P, W>, AllocFailed<W>>
         ensures shared { IfOk result (λ runtime. shared_of runtime ≡ shared) }
+        ensures back { IfErr result (λ failed. failed.value ≡ shared) }
         ensures stands { IfOk result (λ runtime. RefinesStart O.output_number limits (strategy_of pool) runtime) }
         ensures pool { IfOk result (λ runtime. (jobs_of runtime).pool ≡ pool) }
         ensures timers { IfOk result (λ runtime. is_timed runtime ≡ has_timers) }
@@ -42,6 +44,7 @@ impl<F: Drop, O: Outcome + Drop, D: Driver, P: ThreadPool + Drop, W: SharedState
         ensures history { IfOk result (λ runtime. runtime.journal.history.entries ≡ []) }
         ensures futures { IfOk result (λ runtime. futures_of runtime ≡ []) }
         ensures unfull { IfOk result (λ runtime. runtime.journal.is_full ≡ false) }
+        ensures first { IfOk result (IsFirstAt start) }
         ensures registered { IfOk result (λ runtime. (s : ℕ) → registered_in runtime s ≡ None) }
     {
         let builder = RuntimeBuilder {
@@ -54,7 +57,7 @@ impl<F: Drop, O: Outcome + Drop, D: Driver, P: ThreadPool + Drop, W: SharedState
         builder.make(alloc, has_timers, start, shared)
     }
 
-    /// Returns the journal of all that the runtime did.
+    /// Returns the journal of all that its calls of `block_on` and `run_until` did.
     pub fn journal(&self) -> &Journal
         ensures { result.now ≡ self.now.journal }
     {

@@ -1,5 +1,5 @@
 // How a runtime is set up and made.
-ghost use Rattle.std.specs.Prelude.{⊤, ◌≡◌, ◌^◌, ℕ, max, Bool, true, false, not, None, [], IfOk, IfSome, IfNone};
+ghost use Rattle.std.specs.Prelude.{⊤, ◌≡◌, ◌^◌, ℕ, max, Bool, true, false, not, None, [], IfOk, IfErr, IfSome, IfNone};
 ghost use Rattle.mono_machine.specs.Machine.{start_machine};
 ghost use Rattle.mono_time.specs.Instants.{nanos_of};
 ghost use Rattle.mono_time.specs.Timers.{registered_of};
@@ -25,7 +25,7 @@ use mono_model::Host;
 use mono_table::Slots;
 use mono_task::{SharedState, TaskFuture};
 use mono_time::{Due, Instant};
-use std::alloc::{AllocError, Global};
+use std::alloc::{AllocError, AllocFailed, Global};
 
 /// The inbox's first capacity if none is set.
 pub(crate) const ENTRIES: u32 = 1024;
@@ -78,7 +78,8 @@ impl<D: Drop, P: Drop> RuntimeBuilder<D, P> {
         }
     }
 
-    /// Sets the inbox's first capacity, and raises it to at least 256.
+    /// Sets the inbox's first capacity, and raises it to at least 256. The capacity is a hint: the inbox grows when it
+    /// must, and no clause of a runtime depends on it.
     pub fn with_entries(self, entries: u32) -> RuntimeBuilder<D, P>
         ensures { result ≡ record self { entries = max entries 256 } }
     {
@@ -87,7 +88,7 @@ impl<D: Drop, P: Drop> RuntimeBuilder<D, P> {
         this
     }
 
-    /// Returns the inbox's first capacity.
+    /// Returns the inbox's first capacity that is set.
     pub fn entries(&self) -> u32
         ensures { result ≡ self.now.entries }
     {
@@ -187,17 +188,28 @@ impl<D: Buildable, P: ThreadPool + Drop> RuntimeBuilder<D, P> {
         ensures registered { IfOk result (λ made. (s : ℕ) → registered_in made s ≡ None) }
         ensures aligned { IfOk result (λ made. HasOwnFutures made) }
     {
-        D::build(alloc, self, ())
+        let made = D::build(alloc, self, ())?;
+        Ok(made)
     }
 
-    /// Makes a runtime whose tasks share this value (`shared`). All else is as in `build`.
+    /// Makes a runtime whose tasks share this value (`shared`). Hands the value back if out of memory (`back`). All else is
+    /// as in `build`.
+    ///
+    /// ```rust
+    /// // use_channel/src/main.rt
+    /// let made: Running = match builder.build_sharing(alloc, board) {
+    ///     Ok(made) => made,
+    ///     Err(_) => return None,
+    /// };
+    /// ```
     pub fn build_sharing<F: Drop, O: Outcome + Drop, W: SharedState + Drop>(
         self,
         alloc: Global,
         shared: W,
-    ) -> Result<Runtime<F, O, D, P, W>, AllocError>
+    ) -> Result<Runtime<F, O, D, P, W>, AllocFailed<W>>
         ensures stands { IfOk result (λ made. RefinesStart O.output_number self.limits (strategy_of self.pool) made) }
         ensures shared { IfOk result (λ made. shared_of made ≡ shared) }
+        ensures back { IfErr result (λ failed. failed.value ≡ shared) }
         ensures timers { IfOk result (λ made. is_timed made ≡ D.marks_timers) }
         ensures pool { IfOk result (λ made. (jobs_of made).pool ≡ self.pool) }
         ensures driver { IfOk result (λ made. made.driver ≡ self.driver) }
@@ -215,15 +227,16 @@ impl<D: Buildable, P: ThreadPool + Drop> RuntimeBuilder<D, P> {
 
 impl<D: Driver, P: ThreadPool + Drop> RuntimeBuilder<D, P> {
     /// Makes a runtime that refines the start machine, with or without timers, and with this first reading of the
-    /// clock.
+    /// clock. Hands the shared value back if out of memory.
     pub(crate) fn make<F: Drop, O: Outcome + Drop, W: SharedState + Drop>(
         self,
         alloc: Global,
         has_timers: bool,
         start: Instant,
         shared: W,
-    ) -> Result<Runtime<F, O, D, P, W>, AllocError>
+    ) -> Result<Runtime<F, O, D, P, W>, AllocFailed<W>>
         ensures shared { IfOk result (λ made. made.cx.shared ≡ shared) }
+        ensures back { IfErr result (λ failed. failed.value ≡ shared) }
         ensures stands { IfOk result (λ made. Matches O.output_number hosting_of made.cx.parts (start_machine self.limits (strategy_of self.pool))) }
         ensures timers { IfOk result (λ made. made.cx.parts.has_timers ≡ has_timers) }
         ensures pool { IfOk result (λ made. made.cx.parts.blocking.pool ≡ self.pool) }
@@ -243,9 +256,15 @@ impl<D: Driver, P: ThreadPool + Drop> RuntimeBuilder<D, P> {
             limits,
             keeps_journal,
         } = self;
-        let unpark = driver.unpark()?;
-        let wakers = Wakers::new(alloc, entries as usize, unpark)?;
-        let parts = Parts::starting(alloc, limits, pool, has_timers, start)?;
+        let Ok(unpark) = driver.unpark() else {
+            return Err(AllocFailed { value: shared });
+        };
+        let Ok(wakers) = Wakers::new(alloc, entries as usize, unpark) else {
+            return Err(AllocFailed { value: shared });
+        };
+        let Ok(parts) = Parts::starting(alloc, limits, pool, has_timers, start) else {
+            return Err(AllocFailed { value: shared });
+        };
         Ok(Runtime {
             cx: Cx {
                 parts,
@@ -276,8 +295,9 @@ pub trait Buildable: Driver + Sized {
         alloc: Global,
         this: RuntimeBuilder<Self, P>,
         shared: W,
-    ) -> Result<Runtime<F, O, Self, P, W>, AllocError>
+    ) -> Result<Runtime<F, O, Self, P, W>, AllocFailed<W>>
         ensures shared { IfOk result (λ made. shared_of made ≡ shared) }
+        ensures back { IfErr result (λ failed. failed.value ≡ shared) }
         ensures stands { IfOk result (λ made. RefinesStart O.output_number this.limits (strategy_of this.pool) made) }
         ensures timers { IfOk result (λ made. is_timed made ≡ marks_timers) }
         ensures pool { IfOk result (λ made. (jobs_of made).pool ≡ this.pool) }
@@ -368,7 +388,7 @@ impl<F: Drop, O: Outcome + Drop, D: Driver, P: ThreadPool + Drop, W: SharedState
 /// history from the machine's start that `Blocked` specifies for the answer (`history`). Its readings and parks are the
 /// driver's. Each park ends at the next expiration over the registered ticks, of which there are none at the start. Each
 /// turn is one poll of its task's own future, also the one in which memory ran out. An answer is one that the future gives
-/// (`given`).
+/// (`given`). The tasks share nothing, so no clause is about what a park finds in the shared value.
 ///
 /// The future can be polled, and so can each that a turn spawns (`callable`, `others`).
 pub fn start<D, F, O, P, R: Host>(

@@ -24,6 +24,7 @@ impl<F: Drop, O: Outcome + Drop, D: Driver, P: ThreadPool + Drop, W: SharedState
 > {
     /// Takes all that waits in the inbox, and wakes the tasks that are unfinished. Does nothing if out of memory: what waits
     /// stays in the inbox.
+    #[inline(never)]
     pub(crate) fn drain<R: Host>(&mut self, rt: &R, alloc: Global) -> Result<(), RunError>
         ensures refused { OnErr result (Does O.output_number Stays self.old.cx.parts self.new.cx.parts self.old.journal self.new.journal) }
         ensures drained { OnOk result (Does O.output_number Drained self.old.cx.parts self.new.cx.parts self.old.journal self.new.journal) }

@@ -7,7 +7,7 @@ ghost use Rattle.mono_rt.specs.Handles.{TakesOutput};
 ghost use Rattle.mono_rt.specs.Rounds.{Ends};
 ghost use Rattle.mono_rt.specs.Faults.{FaultsBy};
 ghost use Rattle.mono_rt.specs.FuturePolls.{OnMain};
-ghost use Rattle.mono_rt.specs.Views.{PollsHandleOf, DropsHandleOf, tasks_of, is_timed, Rests, Grows, ChangesTasks, HoldsSamePlaces, LeadsShared, TellsDriver, PollsItsFutures, PollsItsFuturesBy, FindsTasksListed, FillsJournal, CanRun, GivesNoMore};
+ghost use Rattle.mono_rt.specs.Views.{PollsHandleOf, DropsHandleOf, tasks_of, is_timed, Rests, RaisesTurns, Grows, ChangesTasks, HoldsSamePlaces, LeadsShared, TellsDriver, PollsItsFutures, PollsItsFuturesBy, FindsTasksListed, FillsJournal, CanRun, GivesNoMore};
 
 use crate::contexts::Cx;
 use crate::parts::RunError;
@@ -99,6 +99,7 @@ where
         ensures ends { Grows O.output_number (Ends (is_timed self.old) handle.now turns result) self.old self.new }
         ensures shared { LeadsShared W.leads self.old self.new }
         ensures rests { Rests self.new }
+        ensures turns { RaisesTurns O.output_number self.old self.new }
         ensures polled { OnMain result (PollsItsFutures O.output_number W.SharedState F.TaskFuture self.old self.new) }
         ensures still_polled { PollsItsFuturesBy O.output_number W.SharedState F.TaskFuture false self.old self.new }
         ensures listed { FindsTasksListed O.output_number W.SharedState F.TaskFuture false self.old self.new }

@@ -4,7 +4,7 @@ ghost use Rattle.mono_model.specs.Table.{next_number};
 ghost use Rattle.mono_model.specs.Tasks.{spawned};
 ghost use Rattle.mono_task.specs.Spawns.{refused_future, IsRefusedIfFull};
 ghost use Rattle.mono_rt.specs.Remains.{ChangesTasksAlone};
-ghost use Rattle.mono_rt.specs.Views.{SpawnsOne, turn_of, context_of, tasks_of, futures_of, shared_of, is_timed, HasOwnFutures, KeepsTasks};
+ghost use Rattle.mono_rt.specs.Views.{SpawnsOne, turn_of, turns_begun, context_of, tasks_of, futures_of, shared_of, is_timed, HasOwnFutures, KeepsTasks};
 
 use crate::contexts::Cx;
 use crate::runtimes::Runtime;
@@ -22,7 +22,7 @@ impl<F: Drop, O: Outcome + Drop, D: Driver, P: ThreadPool + Drop, W: SharedState
     W,
 > {
     /// Makes a task of this future, and queues it last; it has its turns in calls of `block_on`. The future is stored
-    /// under the task's number (`number`, `futures`).
+    /// under the task's number (`number`, `futures`). A spent one is not polled in its turns.
     ///
     /// Refused with `AtCapacity` if and only if the number of live tasks is at the limit or the next number is 2^64 - 1
     /// (`full`); otherwise with `Memory` if an allocation failed. For each machine that the context refined, the spawn
@@ -65,6 +65,13 @@ impl<F: Drop, O: Outcome + Drop, D: Driver, P: ThreadPool + Drop, W: SharedState
             Err(SpawnTask::AtCapacity) => Err(SpawnRefused::AtCapacity(self.cx.futures.abort())),
             Err(SpawnTask::Memory) => Err(SpawnRefused::Memory(self.cx.futures.abort())),
         }
+    }
+
+    /// Returns how many turns the runtime has begun, at most 2^64 - 1. A call of `block_on` raises it by its turns.
+    pub fn turns(&self) -> u64
+        ensures { result ≡ turns_begun self.now }
+    {
+        self.cx.parts.tasks.turns()
     }
 
     /// Returns the context: the tasks, sleeps and futures between two calls.

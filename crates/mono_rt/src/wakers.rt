@@ -139,6 +139,7 @@ impl<U: Unpark> Wakers<U> {
     }
 
     /// Makes the tasks that ended unknown, under one lock, if there are any. None is left (`none`).
+    #[inline(always)]
     pub(crate) fn retire_ended<R: Host>(&mut self, rt: &R)
         ensures none { self.new.ended.items ≡ [] }
         ensures retired { all_in self.new.retired.entries ≡ closed_in self.old.retired.entries self.old.ended.items }
@@ -146,14 +147,26 @@ impl<U: Unpark> Wakers<U> {
         ensures unparks { self.new.unparks ≡ self.old.unparks }
     {
         if !self.ended.is_empty() {
-            self.inbox.retire_all(rt, &self.ended);
-            self.retired = self.retired.told::<Vec<u64>, Together>(&self.ended);
-            self.ended.clear();
+            self.retire_list(rt);
         }
+    }
+
+    /// Makes the tasks that ended unknown, under one lock. None is left (`none`).
+    #[inline(never)]
+    fn retire_list<R: Host>(&mut self, rt: &R)
+        ensures none { self.new.ended.items ≡ [] }
+        ensures retired { all_in self.new.retired.entries ≡ closed_in self.old.retired.entries self.old.ended.items }
+        ensures taken { self.new.taken ≡ self.old.taken }
+        ensures unparks { self.new.unparks ≡ self.old.unparks }
+    {
+        self.inbox.retire_all(rt, &self.ended);
+        self.retired = self.retired.told::<Vec<u64>, Together>(&self.ended);
+        self.ended.clear();
     }
 
     /// Makes the tasks that ended unknown, and takes all that waits, with room for its wakes and for their entries. Takes
     /// nothing if out of memory; the next park then ends at once, so that the next drain takes it.
+    #[inline(always)]
     pub(crate) fn drain<R: Host>(
         &mut self,
         rt: &R,

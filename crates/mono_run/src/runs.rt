@@ -16,7 +16,7 @@ use mono_blocking::{BlockingHandle, DefaultThreadPool, Spawner};
 use mono_driver::{Clock, StepDriver, ThreadDriver};
 use mono_model::Host;
 use mono_rt::{Instant, Journal, RunError, Runtime, TaskWait};
-use std::alloc::{AllocError, Global};
+use std::alloc::{AllocError, AllocFailed, Global};
 
 /// How a run ended.
 #[derive(Clone, Copy, Debug, PartialEq, Eq)]
@@ -171,7 +171,7 @@ pub fn run_script<R: Host + Send + 'static, C: Clock + Drop, P: Spawner>(
     let driver = driver_for(alloc, workers, clock)?;
     let pool = DefaultThreadPool::new(rt, alloc, workers, spawner)?;
     let handle = BlockingHandle::Attached(pool);
-    let made: Result<ScriptRuntime<C>, AllocError> = Runtime::new(
+    let made: Result<ScriptRuntime<C>, AllocFailed<()>> = Runtime::new(
         alloc,
         driver,
         handle,

@@ -69,10 +69,9 @@ where
         jobs: 0,
         sleeps: 2,
     };
-    let start = Instant::from_nanos(0).expect(rt, "an instant");
     let driver = StepDriver::new(Vec::new(alloc));
     let pool = BlockingHandle::Empty(BlockingStrategy::Panic);
-    let (answer, journal) = run_alone(rt, alloc, driver, pool, limits, start, future, 1000).expect(
+    let (answer, journal) = run_alone(rt, alloc, driver, pool, limits, future, 1000).expect(
         rt, "memory",
     );
     (answer, told_in(&journal))

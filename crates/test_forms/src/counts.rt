@@ -4,8 +4,8 @@ ghost use Rattle.std.specs.Prelude.{◌≡◌, ◌+◌, ◌<◌, ◌⊎◌, IfOk
 use mono_forms::{FutureExt, race};
 use mono_quiet::laws::quiet_futures_spawn_none;
 use mono_rt::{
-    BlockingHandle, BlockingStrategy, Host, Instant, Limits, NoPool, NoUnpark, RunError,
-    SleepError, StepDriver, run_alone, sleep_for,
+    BlockingHandle, BlockingStrategy, Host, Limits, NoPool, NoUnpark, RunError, SleepError,
+    StepDriver, run_alone, sleep_for,
 };
 use std::alloc::{AllocError, Global};
 use std::time::Duration;
@@ -34,8 +34,7 @@ fn count_up<R: Host>(rt: &R, alloc: Global, count: u64) -> Result<Result<u64, Ru
     };
     let driver = StepDriver::new(Vec::new(alloc));
     let pool: BlockingHandle<NoPool> = BlockingHandle::Empty(BlockingStrategy::Panic);
-    let start = Instant::ZERO;
-    let (answer, _journal) = run_alone(rt, alloc, driver, pool, limits, start, task, 100)?;
+    let (answer, _journal) = run_alone(rt, alloc, driver, pool, limits, task, 100)?;
     Ok(answer)
 }
 
@@ -64,7 +63,7 @@ fn count_in_a_race<R: Host>(
     };
     let driver = StepDriver::new(Vec::new(alloc));
     let pool: BlockingHandle<NoPool> = BlockingHandle::Empty(BlockingStrategy::Panic);
-    let (answer, _journal) = run_alone(rt, alloc, driver, pool, limits, Instant::ZERO, task, 100)?;
+    let (answer, _journal) = run_alone(rt, alloc, driver, pool, limits, task, 100)?;
     Ok(answer)
 }
 

@@ -6,7 +6,7 @@ ghost use Rattle.std.specs.Prelude.{⊤};
 use crate::jobs::{Gives, keeping, on_caller, run};
 use mono_forms::{Either, FutureExt, race_either};
 use mono_rt::{
-    BlockingHandle, BlockingStrategy, Host, Instant, JobContext, JobHandle, JoinError, JoinHandle,
+    BlockingHandle, BlockingStrategy, Host, JobContext, JobHandle, JoinError, JoinHandle,
     LateError, Limits, NoJob, NoPool, Outcome, Poll, PollJob, RunError, SleepError, SleepFor,
     SpawnContext, StepDriver, TaskFuture, TimeContext, run_alone, sleep_for, timeout_for,
 };
@@ -139,16 +139,9 @@ fn sum<R: Host + Abort>(rt: &R, alloc: Global, left: u64, tasks: u64) -> Result<
         sum: 0,
         handle: None,
     });
-    let (answer, _journal) = run_alone(
-        rt,
-        alloc,
-        driver,
-        pool,
-        limits,
-        Instant::ZERO,
-        work,
-        1000,
-    ).expect(rt, "memory");
+    let (answer, _journal) = run_alone(rt, alloc, driver, pool, limits, work, 1000).expect(
+        rt, "memory",
+    );
     answer
 }
 

@@ -5,9 +5,9 @@ ghost use Rattle.mono_blocking.specs.Pool.{Offers};
 use mono_blocking::{BlockingTask, Offered};
 use mono_forms::{FutureExt, race};
 use mono_rt::{
-    BlockingHandle, BlockingStrategy, Cx, Host, Instant, Job, JobError, LateError, Limits, NoPool,
-    NoUnpark, Outcome, RunError, SleepError, SpawnError, StepDriver, TaskFuture, ThreadPool,
-    run_alone, run_job, sleep_for, timeout_for,
+    BlockingHandle, BlockingStrategy, Cx, Host, Job, JobError, LateError, Limits, NoPool, NoUnpark,
+    Outcome, RunError, SleepError, SpawnError, StepDriver, TaskFuture, ThreadPool, run_alone,
+    run_job, sleep_for, timeout_for,
 };
 use std::alloc::Global;
 use std::process::Abort;
@@ -141,16 +141,9 @@ where
         sleeps: 2,
     };
     let driver = StepDriver::new(Vec::new(alloc));
-    let (answer, _journal) = run_alone(
-        rt,
-        alloc,
-        driver,
-        pool,
-        limits,
-        Instant::ZERO,
-        future,
-        1000,
-    ).expect(rt, "memory");
+    let (answer, _journal) = run_alone(rt, alloc, driver, pool, limits, future, 1000).expect(
+        rt, "memory",
+    );
     answer
 }
 

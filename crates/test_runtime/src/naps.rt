@@ -2,7 +2,7 @@
 use crate::turns::Gives;
 use mono_blocking::NoPool;
 use mono_model::Host;
-use mono_rt::{Entry, Instant, Journal, RunError, StepDriver};
+use mono_rt::{Entry, Journal, RunError, StepDriver};
 use std::alloc::Global;
 use std::process::Abort;
 use std::time::Duration;
@@ -31,11 +31,10 @@ fn is_nap<R: Host + Abort>(
     answer: Result<u64, RunError>,
     told: (u64, u64),
 ) -> bool {
-    let start = Instant::from_nanos(0).expect(rt, "an instant");
     let driver = StepDriver::new(Vec::new(alloc));
     let length = Duration::from_millis(milliseconds);
     let (napped, journal) = nap_within::<_, NoPool<Gives>, _>(
-        rt, alloc, driver, parks, length, start,
+        rt, alloc, driver, parks, length,
     ).expect(rt, "memory");
     napped == answer && parks_in(&journal) == told
 }

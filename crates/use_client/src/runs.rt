@@ -2,8 +2,8 @@
 ghost use Rattle.std.specs.Prelude.{IfOk};
 
 use mono_rt::{
-    BlockingHandle, BlockingStrategy, Cx, Driver, Host, Instant, Journal, Limits, RunError,
-    TaskFuture, ThreadPool, run_alone,
+    BlockingHandle, BlockingStrategy, Cx, Driver, Host, Journal, Limits, RunError, TaskFuture,
+    ThreadPool, run_alone,
 };
 use std::alloc::{AllocError, Global};
 
@@ -28,5 +28,5 @@ where
         sleeps: 2,
     };
     let pool: BlockingHandle<P> = BlockingHandle::Empty(BlockingStrategy::Panic);
-    run_alone(rt, alloc, driver, pool, limits, Instant::ZERO, task, 100)
+    run_alone(rt, alloc, driver, pool, limits, task, 100)
 }

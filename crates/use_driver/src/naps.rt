@@ -7,8 +7,8 @@ ghost use Rattle.mono_rt.specs.Journals.{events_in, reports_in};
 
 use crate::bounds::Bounded;
 use mono_rt::{
-    BlockingHandle, BlockingStrategy, Driver, Host, Instant, Journal, Limits, Poll, RunError,
-    Sleep, TaskFuture, ThreadPool, TimeContext, run_alone, sleep,
+    BlockingHandle, BlockingStrategy, Driver, Host, Journal, Limits, Poll, RunError, Sleep,
+    TaskFuture, ThreadPool, TimeContext, run_alone, sleep,
 };
 use std::alloc::{AllocError, Global};
 use std::time::Duration;
@@ -80,7 +80,6 @@ pub fn nap_within<D: Driver, P: ThreadPool + Drop, R: Host>(
     driver: D,
     parks: u64,
     length: Duration,
-    start: Instant,
 ) -> Result<(Result<u64, RunError>, Journal), AllocError>
     ensures run { IfOk result (λ r. (new : Machine) × Run (start_machine (record { tasks = 1; jobs = 0; sleeps = 1 }) Panic) (events_in r.1.history.entries) (reports_in r.1.history.entries) new) }
 {
@@ -91,14 +90,5 @@ pub fn nap_within<D: Driver, P: ThreadPool + Drop, R: Host>(
     };
     let pool: BlockingHandle<P> = BlockingHandle::Empty(BlockingStrategy::Panic);
     let driver = Bounded::new(driver, parks);
-    run_alone(
-        rt,
-        alloc,
-        driver,
-        pool,
-        limits,
-        start,
-        Nap::new(length),
-        100,
-    )
+    run_alone(rt, alloc, driver, pool, limits, Nap::new(length), 100)
 }

@@ -5,8 +5,8 @@ ghost use Rattle.std.specs.Prelude.{◌≡◌, ◌⊎◌, IfOk};
 
 use mono_forms::FutureExt;
 use mono_rt::{
-    BlockingHandle, BlockingStrategy, Host, Instant, Limits, NoPool, RunError, SleepError,
-    StepDriver, run_alone, sleep_for,
+    BlockingHandle, BlockingStrategy, Host, Limits, NoPool, RunError, SleepError, StepDriver,
+    run_alone, sleep_for,
 };
 use std::alloc::{AllocError, Global};
 use std::io;
@@ -26,8 +26,7 @@ fn sleep_twice<R: Host>(rt: &R, alloc: Global) -> Result<Result<u64, RunError>, 
     };
     let driver = StepDriver::new(Vec::new(alloc));
     let pool: BlockingHandle<NoPool> = BlockingHandle::Empty(BlockingStrategy::Panic);
-    let start = Instant::ZERO;
-    let (answer, _journal) = run_alone(rt, alloc, driver, pool, limits, start, task, 100)?;
+    let (answer, _journal) = run_alone(rt, alloc, driver, pool, limits, task, 100)?;
     Ok(answer)
 }
 

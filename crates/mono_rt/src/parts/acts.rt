@@ -1,11 +1,12 @@
 // The acts of the turn that runs: all of them in proofs, and in memory as far as the journal reads them.
-ghost use Rattle.std.specs.Prelude.{◌≡◌, true, false, IfOk, OnOk, IfSome, IfNone, vec_capacity};
+ghost use Rattle.std.specs.Prelude.{◌≡◌, ◌≤◌, [], true, false, IfOk, OnOk, vec_capacity};
 ghost use Rattle.mono_rt.specs.Record.{no_acts, noted};
 
 use mono_machine::{List, Reply, TurnStep};
 use mono_model::History;
 use std::alloc::{AllocError, Global};
 use std::marker::Model;
+use std::mem;
 
 /// How many acts of one turn memory keeps.
 const ROOM: usize = 512;
@@ -33,26 +34,8 @@ impl Model for Acts {
 }
 
 impl Acts {
-    /// Returns a record without acts, with room for 512.
-    pub fn with_room(alloc: Global) -> Result<Acts, AllocError>
-        ensures { IfOk result (λ acts. acts ≡ no_acts false) }
-    {
-        match Vec::with_capacity(alloc, ROOM) {
-            Err(error) => Err(error),
-            Ok(steps) => match Vec::with_capacity(alloc, ROOM) {
-                Err(error) => Err(error),
-                Ok(replies) => Ok(Acts {
-                    steps,
-                    replies,
-                    is_full: false,
-                    done: History::new(),
-                    replied: History::new(),
-                }),
-            },
-        }
-    }
-
     /// Clears the record, with room for 512 acts, or for none if the record is not read.
+    #[inline(always)]
     pub fn begin(&mut self, alloc: Global, is_unread: bool) -> Result<(), AllocError>
         ensures { OnOk result (self.new ≡ no_acts is_unread) }
     {
@@ -61,9 +44,43 @@ impl Acts {
             self.done = History::new();
             self.replied = History::new();
         } else {
-            *self = Acts::with_room(alloc)?;
+            self.begin_read(alloc)?;
         }
         Ok(())
+    }
+
+    // Clears the record, with room for 512 acts. It takes no memory if the record had that room before.
+    #[inline(never)]
+    fn begin_read(&mut self, alloc: Global) -> Result<(), AllocError>
+        ensures { OnOk result (self.new ≡ no_acts false) }
+    {
+        self.is_full = true;
+        self.done = History::new();
+        self.replied = History::new();
+        empty_room(alloc, &mut self.steps)?;
+        empty_room(alloc, &mut self.replies)?;
+        self.is_full = false;
+        Ok(())
+    }
+
+    /// Returns whether the record is full.
+    #[inline(always)]
+    pub fn is_full(&self) -> bool
+        ensures { result ≡ self.now.is_full }
+    {
+        self.is_full
+    }
+
+    /// Takes the acts and their replies, in proofs alone, out of a full record. It costs nothing at run time.
+    #[inline(always)]
+    pub fn take_lost(&mut self) -> (History<TurnStep>, History<Reply>)
+        requires { self.old.is_full ≡ true }
+        ensures steps { result.0.entries ≡ self.old.steps }
+        ensures replies { result.1.entries ≡ self.old.replies }
+    {
+        let done = mem::replace(&mut self.done, History::new());
+        let replied = mem::replace(&mut self.replied, History::new());
+        (done, replied)
     }
 
     /// Returns a record without acts, of which memory keeps none.
@@ -79,19 +96,17 @@ impl Acts {
         }
     }
 
-    /// Returns the acts and their replies, in as much memory as they need, or None if the record is full.
-    pub fn take(self) -> Option<(List<TurnStep>, List<Reply>)>
-        ensures some { IfSome result (λ lists. (self.is_full ≡ false) × (lists.0 ≡ self.steps) × (lists.1 ≡ self.replies)) }
-        ensures none { IfNone result (self.is_full ≡ true) }
+    /// Returns the acts and their replies in lists of just their length. The record keeps its room for the next turn. If
+    /// an allocation fails, a list takes that room itself.
+    pub fn take_apart(&mut self, alloc: Global) -> (List<TurnStep>, List<Reply>)
+        requires { self.old.is_full ≡ false }
+        ensures steps { result.0 ≡ self.old.steps }
+        ensures replies { result.1 ≡ self.old.replies }
     {
-        if self.is_full {
-            return None;
-        }
-        let mut steps = self.steps;
-        let mut replies = self.replies;
-        steps.shrink_to_fit();
-        replies.shrink_to_fit();
-        Some((List::from(steps), List::from(replies)))
+        let steps = apart(alloc, &mut self.steps);
+        let replies = apart(alloc, &mut self.replies);
+        self.is_full = true;
+        (steps, replies)
     }
 
     /// Adds one act. It takes no memory.
@@ -109,4 +124,27 @@ impl Acts {
         self.done = done;
         self.replied = replied;
     }
+}
+
+// Returns a copy of a list in just its length, or the list itself if the allocation fails.
+fn apart<T: Copy>(alloc: Global, items: &mut Vec<T>) -> List<T>
+    ensures { result ≡ items.old.items }
+{
+    match Vec::from_slice(alloc, items) {
+        Ok(copy) => List::from(copy),
+        Err(_) => List::from(mem::replace(items, Vec::new(alloc))),
+    }
+}
+
+// Empties a list that then has room for 512 items. It takes no memory if the list had that room before.
+fn empty_room<T: Drop>(alloc: Global, items: &mut Vec<T>) -> Result<(), AllocError>
+    ensures empty { OnOk result (items.new.items ≡ []) }
+    ensures room { OnOk result (512 ≤ vec_capacity items.new) }
+{
+    if items.capacity() < ROOM {
+        *items = Vec::with_capacity(alloc, ROOM)?;
+        return Ok(());
+    }
+    items.clear();
+    Ok(())
 }

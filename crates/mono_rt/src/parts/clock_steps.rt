@@ -66,6 +66,7 @@ impl<O: Outcome + Drop, P: ThreadPool + Drop> Parts<O, Blockings<P>> {
         ensures undone { OnErr result (Does O.output_number Stays self.old self.new journal.old journal.new) }
         ensures has_timers { self.new.has_timers ≡ self.old.has_timers }
         ensures turn { self.new.tasks.turn ≡ self.old.tasks.turn }
+        ensures turns { self.new.tasks.turns ≡ self.old.tasks.turns }
         ensures adds { AddsNone self.old.tasks.tasks self.new.tasks.tasks }
         ensures faults { D.faults driver.new ≡ D.faults driver.old }
         ensures told { (course : Course) → Telling (Still course) (exposed D.Clock driver.old) course journal.old journal.new (exposed D.Clock driver.new) }

@@ -18,10 +18,12 @@ use mono_task::wake_all;
 
 impl<O: Outcome + Drop, P: ThreadPool + Drop> Parts<O, Blockings<P>> {
     /// Records and wakes the tasks that were taken. It takes no memory, so it loses none.
+    #[inline(always)]
     pub fn wake_taken(&mut self, journal: &mut Journal, taken: Taken)
         requires { IsReady taken journal.old }
         ensures drained { Does O.output_number (DrainsAll taken.tasks.items) self.old self.new journal.old journal.new }
         ensures turn { self.new.tasks.turn ≡ self.old.tasks.turn }
+        ensures turns { self.new.tasks.turns ≡ self.old.tasks.turns }
         ensures longer { length self.old.tasks.tasks.queue ≤ length self.new.tasks.tasks.queue }
         ensures adds { AddsNone self.old.tasks.tasks self.new.tasks.tasks }
         ensures has_timers { self.new.has_timers ≡ self.old.has_timers }

@@ -1,4 +1,4 @@
-// The history of a runtime, in order: all of it in proofs, and in memory as far as the journal is kept.
+// The history of a runtime's runs, in order: all of it in proofs, and in memory as far as the journal is kept.
 ghost use Rattle.std.specs.Prelude.{◌≡◌, [], false};
 ghost use mathlib.Core.List.{IsPrefix};
 
@@ -18,7 +18,8 @@ pub enum Entry {
     Park(Option<u64>),
 }
 
-/// The history of a runtime, in order. Its `history` has all of it, in proofs alone. The entries are those of the
+/// The history of a runtime, in order: all that its calls of `block_on` and `run_until` did. What `spawn`, `poll_join` and
+/// `drop_join` do between two of them is no entry. Its `history` has all of it, in proofs alone. The entries are those of the
 /// history while the journal is not full (`kept`), and always a beginning of it (`begins`). A full journal keeps
 /// nothing more.
 #[derive(Drop)]

@@ -1,16 +1,19 @@
 // Laws over the entries of a journal.
-ghost use Rattle.std.specs.Prelude.{◌≡◌, ◌≤◌, ◌+◌, ◌-◌, ◌^◌, ℕ, min, Bool, false, List, [], ◌∷◌, Some, None, Result, Err};
+ghost use Rattle.std.specs.Prelude.{◌≡◌, ◌≤◌, ◌+◌, ◌-◌, ◌^◌, ℕ, min, Bool, true, false, List, [], ◌∷◌, Some, None, Result, Err};
 ghost use Rattle.mono_model.specs.Ticks.{max_nanos};
 ghost use Rattle.mono_machine.specs.declared.events.Event.TheVariants as event;
 ghost use Rattle.mono_machine.specs.declared.events.Report.TheVariants as report;
 ghost use Rattle.mono_rt.specs.declared.parts.journals.Entry.{Entry};
 ghost use Rattle.mono_rt.specs.declared.parts.journals.Entry.TheVariants.{Ran, Now, Park};
-ghost use Rattle.mono_rt.specs.DriverReadings.{Told, Course, going, failed, Tells, IsTold};
+ghost use Rattle.mono_rt.specs.DriverReadings.{Told, Course, going, failed, Tells, TellingSo, IsTold};
 ghost use Rattle.mono_rt.specs.declared.parts.errors.RunError.{RunError};
 ghost use Rattle.mono_rt.specs.declared.parts.errors.RunError.TheVariants as error;
 ghost use Rattle.mono_machine.specs.Machine.{Machine};
-ghost use Rattle.mono_rt.specs.Rounds.{Rounds};
-ghost use Rattle.mono_rt.specs.Budgets.{Spends};
+ghost use Rattle.mono_rt.specs.Rounds.{Drained, Parks, Rounds};
+ghost use Rattle.mono_rt.specs.Budgets.{parks_in, Spends};
+ghost use Rattle.mono_rt.specs.DriverCounts.{ParksCounted, HandsInOnce, ParksOnce};
+ghost use Rattle.mono_rt.specs.SpentFutures.{RestsIfSpent};
+ghost use Rattle.mono_rt.specs.declared.parts.journals.Journal.{Journal};
 ghost use Rattle.mono_rt.specs.Readings.{readings_in, hand_ins_in, AreFirst, AreSums};
 ghost use Rattle.mono_rt.specs.ListedExamples.{ParkFinds};
 
@@ -18,7 +21,7 @@ use crate::contexts::Cx;
 use mono_blocking::ThreadPool;
 use mono_inbox::Unpark;
 use mono_joinword::Outcome;
-use mono_task::TaskFuture;
+use mono_task::{SharedState, TaskFuture};
 
 /// Shows that, if the driver exposes its readings to come, those in the journal are the first of these, in order, the
 /// last one repeated.
@@ -38,6 +41,32 @@ pub fn readings_are_sums_of_parks()
 /// the driver failed.
 pub fn submits_are_counted()
     ensures { (old new : Told) (part : List Entry) → old.submits ≤ 2 ^ 64 - 1 → Tells old going part new going → new.submits ≡ min (old.submits + hand_ins_in part) (2 ^ 64 - 1) }
+{}
+
+/// Shows that the count of parks rises by the parks in the journal, at most to 2^64 - 1, also if calls of the driver failed.
+/// So it does in a call with any answer (`called`).
+pub fn parks_are_counted<T>()
+    ensures told { (old new : Told) (before after : Course) (part : List Entry) → old.parks ≤ 2 ^ 64 - 1 → Tells old before part new after → new.parks ≡ min (old.parks + parks_in part) (2 ^ 64 - 1) }
+    ensures called { (answer : Result T RunError) (old new : Told) (j k : Journal) → old.parks ≤ 2 ^ 64 - 1 → TellingSo answer old j k new → ParksCounted old new j k }
+{}
+
+/// Shows that a pause of tasks that are queued hands in once, and parks never (`queued`). A pause with an empty queue parks
+/// once, and hands in never (`idle`). In either the inbox is drained once.
+pub fn a_pause_hands_in_or_parks()
+    ensures queued { (old new : Told) (after : Course) (m n : Machine) (part : List Entry) → Drained m part n [] → Tells old going part new after → HandsInOnce old new }
+    ensures idle { (has_timers : Bool) (old new : Told) (after : Course) (m n : Machine) (part : List Entry) → Parks has_timers m part n [] → Tells old going part new after → ParksOnce old new }
+{}
+
+/// Shows that a future that is spent is not polled: its turn ends pending, with no act but the wakes that the shared value
+/// owed.
+pub fn a_spent_future_is_not_polled<F, O, P, U, W>()
+where
+    F: TaskFuture<Cx<F, O, P, U, W>, Output = O> + Drop,
+    O: Outcome + Drop,
+    P: ThreadPool + Drop,
+    U: Unpark,
+    W: SharedState + Drop,
+    ensures { (f : F) → F.is_spent f ≡ true → RestsIfSpent O.output_number W.SharedState F.TaskFuture f }
 {}
 
 /// Shows that no call failed if the driver cannot fail.

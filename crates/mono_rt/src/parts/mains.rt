@@ -31,6 +31,7 @@ impl<O: Outcome + Drop, P: ThreadPool + Drop> Parts<O, Blockings<P>> {
         ensures same { OnErr result (self.new.tasks.tasks ≡ self.old.tasks.tasks) }
         ensures has_timers { self.new.has_timers ≡ self.old.has_timers }
         ensures turn { self.new.tasks.turn ≡ self.old.tasks.turn }
+        ensures turns { self.new.tasks.turns ≡ self.old.tasks.turns }
         ensures told { (told : Told) → Telling (Still going) told going journal.old journal.new told }
         ensures full { journal.new.is_full ≡ journal.old.is_full }
         ensures unmade { IfErr result (λ error. OnMemory error (Does O.output_number Stays self.old self.new journal.old journal.new)) }
@@ -88,6 +89,7 @@ impl<O: Outcome + Drop, P: ThreadPool + Drop> Parts<O, Blockings<P>> {
         ensures dropped { Does O.output_number (DropsFor main (option_map O.output_number result)) self.old self.new journal.old journal.new }
         ensures left { self.new.tasks.tasks ≡ join_dropped self.old.tasks.tasks main }
         ensures turn { self.new.tasks.turn ≡ self.old.tasks.turn }
+        ensures turns { self.new.tasks.turns ≡ self.old.tasks.turns }
         ensures told { (told : Told) (course : Course) → Telling (Still course) told course journal.old journal.new told }
         ensures full { journal.new.is_full ≡ journal.old.is_full }
         ensures held { journal.new.entries.held + 1 ≡ journal.old.entries.held }

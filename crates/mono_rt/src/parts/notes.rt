@@ -1,5 +1,5 @@
 // How a journal records entries. Its history has every entry, and memory may keep fewer.
-ghost use Rattle.std.specs.Prelude.{◌≡◌, ◌≤◌, ◌<◌, ◌||◌, ◌++◌, ◌∷◌, [], false, OnOk, OnErr, IfSome, IfNone, length, slice_get, ℕ, ◌+◌, Some};
+ghost use Rattle.std.specs.Prelude.{◌≡◌, ◌≤◌, ◌<◌, ◌||◌, ◌++◌, ◌∷◌, [], true, false, OnOk, OnErr, IfSome, IfNone, length, slice_get, ℕ, ◌+◌, Some};
 ghost use Rattle.mono_machine.specs.declared.events.Event.TheVariants as event;
 ghost use Rattle.mono_machine.specs.declared.events.Report.TheVariants as report;
 ghost use Rattle.mono_rt.specs.declared.parts.journals.Entry.TheVariants.{Ran};
@@ -9,29 +9,30 @@ ghost use Rattle.mono_rt.specs.HeldRoom.{HasRoomFor};
 use crate::parts::acts::Acts;
 use crate::parts::held_room::RoomList;
 use crate::parts::journals::{Entry, Journal};
-use mono_machine::{End, Ended, Event, Report};
-use mono_model::Tells;
+use mono_machine::{End, Ended, Event, Reply, Report, TurnStep};
+use mono_model::{History, Tells};
 use mono_time::Due;
 use std::alloc::{AllocError, Global};
 
-/// A turn that ended, with all its acts, some of which memory may lack.
+/// A turn that ended, of which memory keeps no act.
 #[derive(Drop)]
-pub struct Turned {
+pub struct LostTurn {
     task: u64,
-    acts: Acts,
+    done: History<TurnStep>,
+    replied: History<Reply>,
     end: End,
     ended: Ended,
 }
 
-/// The entry of a turn that ended.
-pub struct TurnEntry;
+/// The entry of a turn of which memory keeps no act.
+pub struct LostEntry;
 
-impl Tells<Turned, Entry> for TurnEntry {
+impl Tells<LostTurn, Entry> for LostEntry {
     ghost use Rattle.mono_machine.specs.declared.events.Event.TheVariants as event;
     ghost use Rattle.mono_machine.specs.declared.events.Report.TheVariants as report;
     ghost use Rattle.mono_rt.specs.declared.parts.journals.Entry.TheVariants.{Ran};
 
-    ghost entry = { λ t. Ran (event.Turn t.acts.steps t.end) (report.Turn t.task t.acts.replies t.ended) };
+    ghost entry = { λ t. Ran (event.Turn t.done.entries t.end) (report.Turn t.task t.replied.entries t.ended) };
 }
 
 /// The sleeps that fired at a clock step, with its reading in nanoseconds.
@@ -76,31 +77,6 @@ fn keep(entries: &mut RoomList<Entry>, is_full: bool, entry: Entry)
 {
     if !is_full {
         entries.push(entry);
-    }
-}
-
-// Keeps one more turn, unless the journal is full or memory lost an act. Returns whether the journal is full now.
-fn keep_turn(entries: &mut RoomList<Entry>, is_full: bool, turned: Turned) -> bool
-    requires { HasRoomFor entries.old 1 }
-    ensures kept { IsKept is_full entries.old.items result entries.new.items (Ran (event.Turn turned.acts.steps turned.end) (report.Turn turned.task turned.acts.replies turned.ended)) }
-    ensures full { result ≡ (is_full || turned.acts.is_full) }
-    ensures held { entries.new.held ≡ entries.old.held }
-{
-    if is_full {
-        return true;
-    }
-    let Turned {
-        task,
-        acts,
-        end,
-        ended,
-    } = turned;
-    match acts.take() {
-        None => true,
-        Some((steps, replies)) => {
-            entries.push(Entry::Ran(Event::Turn(steps, end), Report::Turn(task, replies, ended)));
-            false
-        }
     }
 }
 
@@ -150,21 +126,45 @@ impl Journal {
         self.entries.release();
     }
 
-    /// Records the turn of a task, for which there is room. If memory lost an act, the journal is full from then on.
-    pub(crate) fn push_turn(&mut self, task: u64, acts: Acts, end: End, ended: Ended)
-        requires { HasPlaces self.old 1 }
-        ensures history { self.new.history.entries ≡ self.old.history.entries ++ Ran (event.Turn acts.steps end) (report.Turn task acts.replies ended) ∷ [] }
-        ensures full { self.new.is_full ≡ (self.old.is_full || acts.is_full) }
+    /// Records the turn of a task, all of whose acts memory has. There is room for it. The record keeps its own room.
+    #[inline(never)]
+    pub(crate) fn push_turn(
+        &mut self,
+        alloc: Global,
+        task: u64,
+        acts: &mut Acts,
+        end: End,
+        ended: Ended,
+    )
+        requires place { HasPlaces self.old 1 }
+        requires kept { acts.old.is_full ≡ false }
+        ensures history { self.new.history.entries ≡ self.old.history.entries ++ Ran (event.Turn acts.old.steps end) (report.Turn task acts.old.replies ended) ∷ [] }
+        ensures full { self.new.is_full ≡ self.old.is_full }
         ensures held { self.new.entries.held ≡ self.old.entries.held }
     {
-        let turned = Turned {
+        let (steps, replies) = acts.take_apart(alloc);
+        let report = Report::Turn(task, replies, ended);
+        self.push(Entry::Ran(Event::Turn(steps, end), report));
+    }
+
+    /// Records the turn of a task whose acts memory lost. The journal is full from then on. It takes no room.
+    #[inline(always)]
+    pub(crate) fn lose_turn(&mut self, task: u64, acts: &mut Acts, end: End, ended: Ended)
+        requires { acts.old.is_full ≡ true }
+        ensures history { self.new.history.entries ≡ self.old.history.entries ++ Ran (event.Turn acts.old.steps end) (report.Turn task acts.old.replies ended) ∷ [] }
+        ensures full { self.new.is_full ≡ true }
+        ensures held { self.new.entries.held ≡ self.old.entries.held }
+    {
+        let (done, replied) = acts.take_lost();
+        let turn = LostTurn {
             task,
-            acts,
+            done,
+            replied,
             end,
             ended,
         };
-        let history = self.history.told::<Turned, TurnEntry>(&turned);
-        self.is_full = keep_turn(&mut self.entries, self.is_full, turned);
+        let history = self.history.told::<LostTurn, LostEntry>(&turn);
+        self.is_full = true;
         self.history = history;
     }
 

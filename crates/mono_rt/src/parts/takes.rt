@@ -26,6 +26,8 @@ impl Tells<Taken, List<u64>> for TakenTasks {
 
 /// Takes all tasks that wait, and adds their list to the lists that were taken (`told`): exactly what was listed under the
 /// lock. Takes none if out of memory: the room for the wakes and for their entries is made first.
+#[inline(always)]
+#[tactic(auto, using(crate::proofs::RoundLemmas::no_queue))]
 pub(crate) fn take_waiting(
     alloc: Global,
     state: &mut InboxState,
@@ -42,7 +44,11 @@ pub(crate) fn take_waiting(
     ensures full { journal.new.is_full ≡ journal.old.is_full }
     ensures held { journal.new.entries.held ≡ journal.old.entries.held }
 {
-    match open_drain(alloc, journal, state.waiting()) {
+    let count = state.waiting();
+    if count == 0 {
+        return take_none(alloc, state, journal, lists);
+    }
+    match open_drain(alloc, journal, count) {
         None => None,
         Some(mut taken) => {
             state.drain(&mut taken.tasks);
@@ -52,7 +58,41 @@ pub(crate) fn take_waiting(
     }
 }
 
+// Takes the empty list of an inbox in which no task waits, once there is room for the entry of the drain.
+#[inline(always)]
+#[tactic(auto, using(crate::proofs::DrainLemmas::none_left))]
+fn take_none(
+    alloc: Global,
+    state: &mut InboxState,
+    journal: &mut Journal,
+    lists: &mut History<List<u64>>,
+) -> Option<Taken>
+    requires { state.old.waiting ≡ [] }
+    ensures ready { IfSome result (λ taken. IsReady taken journal.new) }
+    ensures taken { IfSome result (λ taken. taken.tasks.items ≡ state.old.waiting) }
+    ensures told { IfSome result (λ taken. lists.new.entries ≡ lists.old.entries ++ state.old.waiting ∷ []) }
+    ensures untold { IfNone result (lists.new.entries ≡ lists.old.entries) }
+    ensures emptied { IfSome result (λ taken. state.new ≡ with_list state.old []) }
+    ensures refused { IfNone result (state.new ≡ state.old) }
+    ensures history { journal.new.history.entries ≡ journal.old.history.entries }
+    ensures full { journal.new.is_full ≡ journal.old.is_full }
+    ensures held { journal.new.entries.held ≡ journal.old.entries.held }
+{
+    match journal.reserve(1) {
+        Err(_) => None,
+        Ok(()) => {
+            let none = Taken {
+                tasks: Vec::new(alloc),
+                woken: Vec::new(alloc),
+            };
+            *lists = lists.told::<Taken, TakenTasks>(&none);
+            Some(none)
+        }
+    }
+}
+
 // Makes room for the entries of so many wakes, and for both lists.
+#[inline(never)]
 fn open_drain(alloc: Global, journal: &mut Journal, count: usize) -> Option<Taken>
     ensures places { IfSome result (λ taken. HasPlaces journal.new (count + 1)) }
     ensures tasks { IfSome result (λ taken. (taken.tasks.items ≡ []) × (count ≤ vec_capacity taken.tasks)) }

@@ -10,7 +10,6 @@ ghost use Rattle.mono_rt.specs.DriverReadings.{going, Telling, Still};
 ghost use Rattle.mono_rt.specs.Views.{exposed};
 ghost use Rattle.mono_rt.specs.Progress.{turn_answer};
 
-use crate::parts::acts::Acts;
 use crate::parts::errors::RunError;
 use crate::parts::journals::{Entry, Journal};
 use crate::parts::state::Parts;
@@ -20,10 +19,10 @@ use mono_joinword::Outcome;
 use mono_machine::{End, Ended};
 use mono_time::Instant;
 use std::alloc::Global;
-use std::mem;
 
 impl<O: Outcome + Drop, P: ThreadPool + Drop> Parts<O, Blockings<P>> {
     /// Records the turn that ended.
+    #[inline(always)]
     pub fn keep_turn(
         &mut self,
         alloc: Global,
@@ -42,8 +41,11 @@ impl<O: Outcome + Drop, P: ThreadPool + Drop> Parts<O, Blockings<P>> {
         ensures full { journal.new.is_full ≡ (journal.old.is_full || self.old.acts.is_full) }
         ensures held { journal.new.entries.held ≡ journal.old.entries.held }
     {
-        let acts = mem::replace(&mut self.acts, Acts::keeping_none(alloc));
-        journal.push_turn(task, acts, end, ended);
+        if self.acts.is_full() {
+            journal.lose_turn(task, &mut self.acts, end, ended);
+            return;
+        }
+        journal.push_turn(alloc, task, &mut self.acts, end, ended);
     }
 
     /// Returns an error if memory ran out in the turn that ended.
@@ -58,6 +60,7 @@ impl<O: Outcome + Drop, P: ThreadPool + Drop> Parts<O, Blockings<P>> {
     }
 
     /// Reserves room for a turn, and records the reading of the clock.
+    #[inline(always)]
     pub fn open_turn<D: Driver>(
         &mut self,
         alloc: Global,

@@ -1,19 +1,19 @@
 use Rattle.mono_rt.proofs.builder.RuntimeBuilder.make.Goals as goal
 
 pub returns-clause-stands : goal.returns-clause-stands
-returns-clause-stands g c = c.in_ok-parts.ensures.stands
+returns-clause-stands g c = c.in-Ok-starting.ensures.stands
 
 pub returns-clause-pool : goal.returns-clause-pool
-returns-clause-pool g c = c.in_ok-parts.ensures.pool
+returns-clause-pool g c = c.in-Ok-starting.ensures.pool
 
 pub returns-clause-timers : goal.returns-clause-timers
-returns-clause-timers g c = c.in_ok-parts.ensures.timers
+returns-clause-timers g c = c.in-Ok-starting.ensures.timers
 
 pub returns-clause-rests : goal.returns-clause-rests
-returns-clause-rests g c = c.in_ok-parts.ensures.rests
+returns-clause-rests g c = c.in-Ok-starting.ensures.rests
 
 pub returns-clause-me : goal.returns-clause-me
-returns-clause-me g c = c.in_ok-parts.ensures.me
+returns-clause-me g c = c.in-Ok-starting.ensures.me
 
 pub returns-clause-registered : goal.returns-clause-registered
-returns-clause-registered g c = c.in_ok-parts.ensures.registered
+returns-clause-registered g c = c.in-Ok-starting.ensures.registered

@@ -20,6 +20,7 @@ use Rattle.mono_rt.proofs.StrategyLemmas.{same_strategy}
 use Rattle.mono_rt.proofs.OutputLemmas.{adds_itself, adds_dropped, output_dropped}
 use Rattle.mono_rt.proofs.PossibleAnswerLemmas.{aligned_spawned, no_more_on, no_more_by, no_more_spawned, given_later}
 use Rattle.mono_rt.proofs.PollableLemmas.{turn_same, turn_with}
+use Rattle.mono_rt.proofs.TurnCountLemmas.{counts_on, counts_spawn, counts_drop, counts_unmade}
 use Rattle.mono_rt.proofs.runtimes.Runtime.block_on.Goals as goal
 
 false-true : false ≡ true → ⊥
@@ -295,3 +296,34 @@ end_main-output-requires g c = omega (arith, c.run-answer.ensures.went.held, c.i
 
 pub returns-in-Err-clause-held : goal.returns-in-Err-clause-held
 returns-in-Err-clause-held g c = c.in-Err.ensures.none.held
+
+-- the main task is made, the loop runs, and the main task's handle is dropped
+pub returns-in-Err-answer-clause-turns : goal.returns-in-Err-answer-clause-turns
+returns-in-Err-answer-clause-turns g c =
+    let number = g.O.Outcome.output_number in
+    let old = c.args.self.now in
+    let started = c.start_main.new.self in
+    let ran = c.run-answer.new.self in
+    let ended = c.end_main-output.new.self in
+    let last = c.end_main-output.new.journal in
+    counts_on number old.cx.parts started.cx.parts ended old.journal started.journal last
+    (counts_spawn number c.in-Ok.main old.cx.parts started.cx.parts old.journal started.journal c.start_main.ensures.turns c.in-Ok.ensures.made.spawn)
+    (counts_on number started.cx.parts ran.cx.parts ended started.journal ran.journal last c.run-answer.ensures.went.turns
+    (counts_drop number c.in-Ok.main (option_map number c.end_main-output.result) ran.cx.parts ended ran.journal last c.end_main-output.ensures.turns c.end_main-output.ensures.dropped))
+
+pub returns-in-Some-clause-turns : goal.returns-in-Some-clause-turns
+returns-in-Some-clause-turns g c =
+    let number = g.O.Outcome.output_number in
+    let old = c.args.self.now in
+    let started = c.start_main.new.self in
+    let ran = c.run-answer.new.self in
+    let ended = c.end_main-output.new.self in
+    let last = c.end_main-output.new.journal in
+    counts_on number old.cx.parts started.cx.parts ended old.journal started.journal last
+    (counts_spawn number c.in-Ok.main old.cx.parts started.cx.parts old.journal started.journal c.start_main.ensures.turns c.in-Ok.ensures.made.spawn)
+    (counts_on number started.cx.parts ran.cx.parts ended started.journal ran.journal last c.run-answer.ensures.went.turns
+    (counts_drop number c.in-Ok.main (option_map number c.end_main-output.result) ran.cx.parts ended ran.journal last c.end_main-output.ensures.turns c.end_main-output.ensures.dropped))
+
+pub returns-in-Err-clause-turns : goal.returns-in-Err-clause-turns
+returns-in-Err-clause-turns g c =
+    counts_unmade g.O.Outcome.output_number c.in-Err.error c.args.self.now.cx.parts c.start_main.new.self.cx.parts c.args.self.now.journal c.start_main.new.self.journal c.start_main.ensures.turns c.in-Err.ensures.none.refused c.in-Err.ensures.none.stays

@@ -37,12 +37,13 @@ pub returns-in-Some-clause-told : goal.returns-in-Some-clause-told
 returns-in-Some-clause-told g c = λ old new before after ends. telling_on {q = before} (tells_nothing refl refl c.drain.ensures.history) (c.wake_taken.ensures.told old new before after ends)
 
 pub returns-in-None-clause-idle : goal.returns-in-None-clause-idle
-returns-in-None-clause-idle g c = record { has_timers = refl; turn = refl; adds = adds_itself c.args.self.now.cx.parts.tasks.tasks; futures = refl; shared = refl; full = c.drain.ensures.full; held = c.drain.ensures.held }
+returns-in-None-clause-idle g c = record { has_timers = refl; turn = refl; turns = refl; adds = adds_itself c.args.self.now.cx.parts.tasks.tasks; futures = refl; shared = refl; full = c.drain.ensures.full; held = c.drain.ensures.held }
 
 pub returns-in-Some-clause-idle : goal.returns-in-Some-clause-idle
 returns-in-Some-clause-idle g c = record {
   has_timers = c.wake_taken.ensures.has_timers;
   turn = c.wake_taken.ensures.turn;
+  turns = c.wake_taken.ensures.turns;
   adds = c.wake_taken.ensures.adds;
   futures = refl;
   shared = refl;

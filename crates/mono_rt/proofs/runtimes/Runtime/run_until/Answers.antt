@@ -37,6 +37,9 @@ returns-clause-held g c = c.run-answer.ensures.went.held
 pub returns-clause-rests : goal.returns-clause-rests
 returns-clause-rests g c = c.run-answer.ensures.went.rests c.requires.rests
 
+pub returns-clause-turns : goal.returns-clause-turns
+returns-clause-turns g c = c.run-answer.ensures.went.turns
+
 pub returns-clause-answers : goal.returns-clause-answers
 returns-clause-answers g c =
     let gives = g.F.TaskFuture.gives in

@@ -16,6 +16,8 @@ use Rattle.mono_rt.proofs.JournalRoomLemmas.{fills_not, fills_turn}
 use Rattle.mono_rt.proofs.PossibleAnswerLemmas.{no_more_same, no_more_around}
 use Rattle.mono_rt.proofs.PollableLemmas.{turn_same}
 use Rattle.mono_rt.proofs.ProgressLemmas.{went_turn}
+use Rattle.mono_task.specs.Schedule.{one_more_turn}
+use Rattle.mono_rt.proofs.TurnCountLemmas.{counts_stays, counts_turn, one_turn_more}
 use Rattle.mono_rt.proofs.runtimes.Runtime.turn.Goals as goal
 
 pub returns-in_default-clause-turned : goal.returns-in_default-clause-turned
@@ -46,6 +48,7 @@ returns-in_default-clause-went g c =
     record {
       has_timers = c.open_turn.ensures.has_timers;
       rests = λ x. ap (λ t. t.turn) c.open_turn.ensures.tasks ∙ x;
+      turns = counts_stays g.O.Outcome.output_number old.cx.parts opened.parts old.journal c.open_turn.new.journal (ap (λ t. t.turns) c.open_turn.ensures.tasks) c.in_default.ensures.unread;
       answers = answers;
       callable = turn_same future future.gives old.cx opened answers refl;
       shared = g.met.W.SharedState.leads_itself _;
@@ -74,6 +77,11 @@ returns-clause-went g c =
     (went_turn number sharing g.D.Clock future closed.parts.is_out_of_memory old new
     (c.keep_turn.ensures.has_timers ∙ c.turn-task.ensures.has_timers ∙ c.open_turn.ensures.has_timers)
     (λ x. ap (λ t. t.turn) c.keep_turn.ensures.tasks ∙ c.turn-task.ensures.rests)
+    (counts_turn number old.cx.parts closed.parts old.journal last
+    (ap (λ t. t.turns) c.keep_turn.ensures.tasks ∙ one_turn_more number sharing future _ _ _ _ _ opened done c.turn-task.ensures.turn ∙ ap (λ t. one_more_turn t.turns) c.open_turn.ensures.tasks)
+    (does_one number old.cx.parts opened.parts closed.parts old.journal first last _ _ _ _ _ c.in-Some.ensures.reading
+    (does_turn number opened.parts done.parts closed.parts first last _ _ _ is c.keep_turn.ensures.history
+    (λ m st. same_machine number hosting_of done.parts closed.parts m c.keep_turn.ensures.tasks c.keep_turn.ensures.timers c.keep_turn.ensures.has_timers c.keep_turn.ensures.blocking st) c.keep_turn.ensures.timers)))
     (no_more_around future.gives old.cx opened done closed c.open_turn.ensures.tasks refl c.turn-task.ensures.answers c.keep_turn.ensures.tasks refl)
     (λ x. turn_same future future.gives done closed (no_more_same future.gives done closed c.keep_turn.ensures.tasks refl) refl c.turn-task.ensures.callable)
     c.turn-task.ensures.shared
