@@ -7,4 +7,5 @@ pub mod Messages
 pub mod Polls
 pub mod Queues
 pub mod Seats
+pub mod Spent
 pub mod Weights

@@ -1,10 +1,11 @@
 // Futures that send and receive, over an end that each borrows.
-ghost use Rattle.std.specs.Prelude.{◌≡◌, true, false, is_none};
+ghost use Rattle.std.specs.Prelude.{◌≡◌, true, false};
 ghost use Rattle.std.specs.declared.option.Option.TheVariants.{None, Some};
 ghost use Rattle.mono_model.specs.Poll.{OnPending};
 ghost use Rattle.mono_channel.specs.Polls.{PollsToReceive, PollsToSend};
 ghost use Rattle.mono_channel.specs.Messages.{ReceiveGives, SendGives};
 ghost use Rattle.mono_channel.specs.Queues.{WasFull};
+ghost use Rattle.mono_channel.specs.Spent.{send_spent};
 
 use crate::ends::{Receiver, Sender};
 use crate::errors::{SendError, TryRecvError, TrySendError};
@@ -164,7 +165,7 @@ impl<T: Drop, U: Unpark, C: RemoteContext<U>> TaskFuture<C> for Recv<'_, T, U> {
 impl<T: Drop, U: Unpark, C: RemoteContext<U>> TaskFuture<C> for Send<'_, T, U> {
     type Output = Result<(), SendError<T>>;
 
-    ghost is_spent = { λ f. is_none f.message };
+    ghost is_spent = { send_spent };
 
     ghost polls = { λ f c r g d. PollsToSend f.sender.now f.message r g.sender.now g.message × C.reaches c d × OnPending r ((C.has_handed_out d ≡ true) × (g.task ≡ C.number c) × WasFull f.sender.now) };
 

@@ -22,8 +22,11 @@ use mono_blocking::{JobHandle, RunJob};
 use mono_combine::{
     Join2, JoinList, MaybeDone, PollFn, Select2, SelectList, TryJoin2, TryJoinList,
 };
+use mono_inbox::Unpark;
+use mono_stream::{ForEach, Next};
+use mono_sync::{Acquire, Notified, mpsc, oneshot, watch};
 use mono_task::JoinHandle;
-use mono_time::{Sleep, SleepFor, Timeout, TimeoutFor};
+use mono_time::{Sleep, SleepFor, Tick, Timeout, TimeoutFor};
 use std::alloc::{AllocFailed, Global};
 
 /// The forms as calls on a future. An empty impl gives them to a future of your own.
@@ -233,3 +236,27 @@ impl<T, X, E> FutureExt for TryJoinList<T, X, E> {}
 impl<A, B, G, H> FutureExt for Select2<A, B, G, H> {}
 
 impl<T, G> FutureExt for SelectList<T, G> {}
+
+impl FutureExt for Tick<'_> {}
+
+impl<S> FutureExt for Next<'_, S> {}
+
+impl<S, F, Fut> FutureExt for ForEach<S, F, Fut> {}
+
+impl<W> FutureExt for Acquire<W> {}
+
+impl<W> FutureExt for Notified<W> {}
+
+impl<W, T> FutureExt for mpsc::Send<W, T> {}
+
+impl<W, T> FutureExt for mpsc::Recv<W, T> {}
+
+impl<W, T> FutureExt for oneshot::Recv<W, T> {}
+
+impl<W, T> FutureExt for oneshot::RecvAt<W, T> {}
+
+impl<W, T> FutureExt for watch::Changed<W, T> {}
+
+impl<T: Drop, U: Unpark> FutureExt for mono_channel::Recv<'_, T, U> {}
+
+impl<T: Drop, U: Unpark> FutureExt for mono_channel::Send<'_, T, U> {}

@@ -8,4 +8,5 @@ pub mod Keepers
 pub mod LeaseLaws
 pub mod MailCalls
 pub mod Mail
+pub mod Spent
 pub mod MailLaws

@@ -4,6 +4,7 @@ ghost use Rattle.std.specs.Option.{option_map};
 ghost use Rattle.mono_model.specs.Poll.{OnPending};
 ghost use Rattle.mono_time.specs.Instants.{nanos_of};
 ghost use Rattle.mono_serve.specs.Keepers.{is_over, KeeperPolls, KeeperCancels, LeavesRest, Keeps, RestsIn, RestsUntil, MakesNap, Naps};
+ghost use Rattle.mono_serve.specs.Spent.{keeper_spent};
 ghost use Rattle.mono_serve.specs.LeaseCalls.{ShownAt, Rests, Forgets, Then};
 ghost use Rattle.mono_serve.specs.Takes.{deadline_of};
 ghost use Rattle.mono_serve.specs.declared.keepers.Phase.TheVariants.{Waits};
@@ -12,6 +13,7 @@ use crate::lease_parts::{advance_part, forget_part, rest_part};
 use crate::leases::Leases;
 use crate::takes::deadline_of;
 use crate::wakes::wake_task;
+use mono_forms::FutureExt;
 use mono_model::{Host, Poll};
 use mono_sync::Holds;
 use mono_task::{SharedContext, TaskFuture};
@@ -52,6 +54,8 @@ pub enum KeeperError {
     /// The sleep was refused.
     Timer(SleepError),
 }
+
+impl<W> FutureExt for Keeper<W> {}
 
 impl<W> Keeper<W> {
     /// Returns a keeper.
@@ -238,7 +242,7 @@ impl<W> Keeper<W> {
 impl<W: Holds<Leases>, C: TimeContext + SharedContext<W>> TaskFuture<C> for Keeper<W> {
     type Output = Result<(), KeeperError>;
 
-    ghost is_spent = { λ f. is_over f.phase };
+    ghost is_spent = { keeper_spent };
 
     ghost polls = { λ f c r g d. KeeperPolls (λ x. W.part (C.shared x)) C.number C.nanos C.sleeps C.work C.reaches f.phase c r g.phase d };
 

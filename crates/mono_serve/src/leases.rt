@@ -160,8 +160,8 @@ impl Leases {
         self.sessions.is_open(session)
     }
 
-    /// Returns the session that holds a key, if any, as of the latest instant that the clock was shown.
-    pub fn holder(&self, key: u64) -> Option<u64>
+    /// Returns the session that owns a key, if any, as of the latest instant that the clock was shown.
+    pub fn owner(&self, key: u64) -> Option<u64>
         ensures { (k : Keeper) → StandsFor self.now.sessions k → result ≡ owner_answer k key }
     {
         self.sessions.owner(key)

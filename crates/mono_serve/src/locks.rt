@@ -6,11 +6,13 @@ ghost use Rattle.mono_session.specs.Answers.{of_number, of_done};
 ghost use Rattle.mono_session.specs.Calls as call;
 ghost use Rattle.mono_serve.specs.LeaseCalls.{Calls, Claims, Looks, GivesUp, Then};
 ghost use Rattle.mono_serve.specs.Locks.{CallsIn, LeavesLock, AsksFor, LooksAgain, AcquirePolls, AcquireCancels};
+ghost use Rattle.mono_serve.specs.Spent.{acquire_spent};
 
 use crate::lease_parts::{
     acquire_part, beat_part, close_part, give_up_part, look_part, open_part, release_part,
 };
 use crate::leases::{Claimed, Leases, Looked};
+use mono_forms::FutureExt;
 use mono_model::{Host, Poll};
 use mono_session::SessionError;
 use mono_sync::Holds;
@@ -39,6 +41,8 @@ pub enum AcquireError {
     /// The session was closed while it waited, or left the queue by another call.
     Lost,
 }
+
+impl<W> FutureExt for Acquire<W> {}
 
 impl<W> Acquire<W> {
     /// Returns a future that acquires the key for the session.
@@ -229,6 +233,8 @@ impl<W> Acquire<W> {
         W: Holds<Leases>,
         ensures asks { AsksFor (λ x. W.part (C.shared x)) C.number C.nanos C.work self.old.session self.old.key cx.old result self.new.ticket cx.new }
         ensures again { OnPending result (self.new.has_answered ≡ false) }
+        ensures session { self.new.session ≡ self.old.session }
+        ensures key { self.new.key ≡ self.old.key }
         ensures reached { C.reaches cx.old cx.new }
     {
         let answer = claim::<W, C>(alloc, cx, self.session, self.key);
@@ -262,6 +268,8 @@ impl<W> Acquire<W> {
         W: Holds<Leases>,
         ensures looks { LooksAgain (λ x. W.part (C.shared x)) C.number C.nanos C.work ticket self.old.session self.old.key cx.old result self.new.ticket cx.new }
         ensures again { OnPending result (self.new.has_answered ≡ false) }
+        ensures session { self.new.session ≡ self.old.session }
+        ensures key { self.new.key ≡ self.old.key }
         ensures reached { C.reaches cx.old cx.new }
     {
         let answer = look::<W, C>(alloc, cx, ticket, self.session, self.key);
@@ -295,7 +303,7 @@ impl<W> Acquire<W> {
 impl<W: Holds<Leases>, C: SharedContext<W>> TaskFuture<C> for Acquire<W> {
     type Output = Result<(), AcquireError>;
 
-    ghost is_spent = { λ f. f.has_answered };
+    ghost is_spent = { acquire_spent };
 
     ghost polls = { λ f c r g d. AcquirePolls (λ x. W.part (C.shared x)) C.number C.nanos C.work f.ticket f.session f.key c r g.ticket d };
 

@@ -10,7 +10,7 @@ use mono_sync::Holds;
 use mono_task::SharedContext;
 
 // Sends a message.
-fn send_part<M, W: Holds<Mailboxes<M>>>(
+fn send_part<W: Holds<Mailboxes<M>>, M>(
     whole: &mut W,
     from: u64,
     to: u64,
@@ -24,7 +24,7 @@ fn send_part<M, W: Holds<Mailboxes<M>>>(
 }
 
 // Removes an actor.
-fn stop_part<M: Drop, W: Holds<Mailboxes<M>>>(whole: &mut W, actor: u64) -> Result<(), ActorError>
+fn stop_part<W: Holds<Mailboxes<M>>, M: Drop>(whole: &mut W, actor: u64) -> Result<(), ActorError>
     ensures answer { Then (Stops (W.part whole.old) actor result) actor (W.part whole.new) }
     ensures leads { W.leads whole.old whole.new }
     ensures keeps { (me : ℕ) → Keeps W.lists me whole.old whole.new }
@@ -33,7 +33,7 @@ fn stop_part<M: Drop, W: Holds<Mailboxes<M>>>(whole: &mut W, actor: u64) -> Resu
 }
 
 // Sends a message, for the running task.
-fn send_now<M, W: Holds<Mailboxes<M>>, C: SharedContext<W>>(
+fn send_now<W: Holds<Mailboxes<M>>, M, C: SharedContext<W>>(
     cx: &mut C,
     from: u64,
     to: u64,
@@ -43,11 +43,11 @@ fn send_now<M, W: Holds<Mailboxes<M>>, C: SharedContext<W>>(
     ensures work { C.work cx.new ≡ C.work cx.old }
     ensures reached { C.reaches cx.old cx.new }
 {
-    send_part::<M, W>(cx.shared_mut(), from, to, message)
+    send_part::<W, M>(cx.shared_mut(), from, to, message)
 }
 
 // Removes an actor, for the running task.
-fn stop_now<M: Drop, W: Holds<Mailboxes<M>>, C: SharedContext<W>>(
+fn stop_now<W: Holds<Mailboxes<M>>, M: Drop, C: SharedContext<W>>(
     cx: &mut C,
     actor: u64,
 ) -> Result<(), ActorError>
@@ -55,11 +55,11 @@ fn stop_now<M: Drop, W: Holds<Mailboxes<M>>, C: SharedContext<W>>(
     ensures work { C.work cx.new ≡ C.work cx.old }
     ensures reached { C.reaches cx.old cx.new }
 {
-    stop_part::<M, W>(cx.shared_mut(), actor)
+    stop_part::<W, M>(cx.shared_mut(), actor)
 }
 
 /// Sends a message, as [`Mailboxes::send`] does. The first task that waits for it is owed a wake, if none was called.
-pub fn send<M, W: Holds<Mailboxes<M>>, C: SharedContext<W>>(
+pub fn send<W: Holds<Mailboxes<M>>, M, C: SharedContext<W>>(
     cx: &mut C,
     from: u64,
     to: u64,
@@ -68,17 +68,17 @@ pub fn send<M, W: Holds<Mailboxes<M>>, C: SharedContext<W>>(
     ensures sends { SendsIn (λ x. W.part (C.shared x)) C.work from to message result cx.old cx.new }
     ensures reached { C.reaches cx.old cx.new }
 {
-    send_now::<M, W, C>(cx, from, to, message)
+    send_now::<W, M, C>(cx, from, to, message)
 }
 
 /// Removes an actor that has a message, as [`Mailboxes::stop`] does. The first task that waits for it is owed a wake, if
 /// none was called.
-pub fn stop<M: Drop, W: Holds<Mailboxes<M>>, C: SharedContext<W>>(
+pub fn stop<W: Holds<Mailboxes<M>>, M: Drop, C: SharedContext<W>>(
     cx: &mut C,
     actor: u64,
 ) -> Result<(), ActorError>
     ensures stops { StopsIn (λ x. W.part (C.shared x)) C.work actor result cx.old cx.new }
     ensures reached { C.reaches cx.old cx.new }
 {
-    stop_now::<M, W, C>(cx, actor)
+    stop_now::<W, M, C>(cx, actor)
 }

@@ -2,11 +2,13 @@
 ghost use Rattle.std.specs.Prelude.{◌≡◌, false};
 ghost use Rattle.std.specs.declared.option.Option.TheVariants.{None};
 ghost use Rattle.mono_serve.specs.Mail.{IsLimited, Leaves, ReceivePolls, ReceiveCancels};
+ghost use Rattle.mono_serve.specs.Spent.{receive_spent};
 ghost use Rattle.mono_serve.specs.MailCalls.{Receives, GivesUp};
 ghost use Rattle.mono_task.specs.Owed.{Keeps};
 
 use crate::mailboxes::{Mailboxes, Received};
 use mono_actor::ActorError;
+use mono_forms::FutureExt;
 use mono_model::{Host, Poll};
 use mono_sync::Holds;
 use mono_task::{SharedContext, TaskFuture};
@@ -27,6 +29,8 @@ pub struct Receive<W, M> {
     shared: PhantomData<W>,
     message: PhantomData<M>,
 }
+
+impl<W, M> FutureExt for Receive<W, M> {}
 
 impl<W, M> Receive<W, M> {
     /// Returns a future that receives a message to the actor.
@@ -53,7 +57,7 @@ pub fn receive_for<W, M>(actor: u64, ms: u64) -> TimeoutFor<Receive<W, M>>
 }
 
 // Asks for a message.
-fn receive_part<M: Drop, W: Holds<Mailboxes<M>>>(
+fn receive_part<W: Holds<Mailboxes<M>>, M: Drop>(
     whole: &mut W,
     ticket: Option<u64>,
     actor: u64,
@@ -67,7 +71,7 @@ fn receive_part<M: Drop, W: Holds<Mailboxes<M>>>(
 }
 
 // Takes a future out of the line.
-fn give_up_part<M, W: Holds<Mailboxes<M>>>(whole: &mut W, ticket: u64, me: u64)
+fn give_up_part<W: Holds<Mailboxes<M>>, M>(whole: &mut W, ticket: u64, me: u64)
     ensures answer { GivesUp (W.part whole.old) ticket me (W.part whole.new) }
     ensures leads { W.leads whole.old whole.new }
     ensures keeps { Keeps W.lists me whole.old whole.new }
@@ -76,7 +80,7 @@ fn give_up_part<M, W: Holds<Mailboxes<M>>>(whole: &mut W, ticket: u64, me: u64)
 }
 
 // Asks for a message, for the running task.
-fn ask<M: Drop, W: Holds<Mailboxes<M>>, C: SharedContext<W>>(
+fn ask<W: Holds<Mailboxes<M>>, M: Drop, C: SharedContext<W>>(
     cx: &mut C,
     ticket: Option<u64>,
     actor: u64,
@@ -86,32 +90,32 @@ fn ask<M: Drop, W: Holds<Mailboxes<M>>, C: SharedContext<W>>(
     ensures reached { C.reaches cx.old cx.new }
 {
     let me = cx.me();
-    receive_part::<M, W>(cx.shared_mut(), ticket, actor, me)
+    receive_part::<W, M>(cx.shared_mut(), ticket, actor, me)
 }
 
 // Takes the running task's future out of the line.
-fn leave<M, W: Holds<Mailboxes<M>>, C: SharedContext<W>>(cx: &mut C, ticket: u64)
+fn leave<W: Holds<Mailboxes<M>>, M, C: SharedContext<W>>(cx: &mut C, ticket: u64)
     ensures answer { GivesUp (W.part (C.shared cx.old)) ticket (C.number cx.old) (W.part (C.shared cx.new)) }
     ensures work { C.work cx.new ≡ C.work cx.old }
     ensures reached { C.reaches cx.old cx.new }
 {
     let me = cx.me();
-    give_up_part::<M, W>(cx.shared_mut(), ticket, me)
+    give_up_part::<W, M>(cx.shared_mut(), ticket, me)
 }
 
 // Takes the running task's future out of the line, and says so in one clause.
-fn drop_out<M, W: Holds<Mailboxes<M>>, C: SharedContext<W>>(cx: &mut C, ticket: u64)
+fn drop_out<W: Holds<Mailboxes<M>>, M, C: SharedContext<W>>(cx: &mut C, ticket: u64)
     ensures left { Leaves (λ x. W.part (C.shared x)) C.number C.work ticket cx.old cx.new }
     ensures reached { C.reaches cx.old cx.new }
 {
-    leave::<M, W, C>(cx, ticket);
+    leave::<W, M, C>(cx, ticket);
 }
 
 /// The future answers with the first message of its actor, or fails if no live actor has the number or if out of memory.
-impl<M: Drop, W: Holds<Mailboxes<M>>, C: SharedContext<W>> TaskFuture<C> for Receive<W, M> {
+impl<W: Holds<Mailboxes<M>>, M: Drop, C: SharedContext<W>> TaskFuture<C> for Receive<W, M> {
     type Output = Result<(u64, M), ActorError>;
 
-    ghost is_spent = { λ f. f.has_answered };
+    ghost is_spent = { receive_spent };
 
     ghost polls = { λ f c r g d. ReceivePolls (λ x. W.part (C.shared x)) C.number C.work f.ticket f.actor c r g.ticket d };
 
@@ -127,7 +131,7 @@ impl<M: Drop, W: Holds<Mailboxes<M>>, C: SharedContext<W>> TaskFuture<C> for Rec
         _alloc: Global,
         cx: &mut C,
     ) -> Poll<Result<(u64, M), ActorError>> {
-        let answer = ask::<M, W, C>(cx, self.ticket, self.actor);
+        let answer = ask::<W, M, C>(cx, self.ticket, self.actor);
         match answer {
             Received::Waits(ticket) => {
                 self.ticket = Some(ticket);
@@ -148,7 +152,7 @@ impl<M: Drop, W: Holds<Mailboxes<M>>, C: SharedContext<W>> TaskFuture<C> for Rec
 
     fn cancel(self, cx: &mut C) {
         if let Some(ticket) = self.ticket {
-            drop_out::<M, W, C>(cx, ticket);
+            drop_out::<W, M, C>(cx, ticket);
         }
     }
 }

@@ -7,10 +7,12 @@ ghost use Rattle.mono_model.specs.Tasks.{woken};
 ghost use Rattle.mono_time.specs.Instants.{nanos_of};
 ghost use Rattle.mono_serve.specs.BucketCalls.{Enters, Asks, GivesUp};
 ghost use Rattle.mono_serve.specs.Takes.{deadline_of, is_over, MayGoOn, LeavesLine, FailsAwake, Naps, FirstNap, MakesSleep, Rests, AsksFor, GoesOn, TakePolls, TakeCancels};
+ghost use Rattle.mono_serve.specs.Spent.{take_spent};
 ghost use Rattle.mono_serve.specs.declared.takes.Stage.TheVariants.{Fresh};
 ghost use Rattle.mono_task.specs.Owed.{Keeps};
 
 use crate::buckets::{Asked, Buckets};
+use mono_forms::FutureExt;
 use mono_limit::LimitError;
 use mono_model::{Host, Poll};
 use mono_sync::Holds;
@@ -57,6 +59,8 @@ pub enum TakeError {
     /// The sleep was refused.
     Timer(SleepError),
 }
+
+impl<W> FutureExt for Take<W> {}
 
 impl<W> Take<W> {
     /// Returns a future that takes `n` tokens of the bucket.
@@ -248,6 +252,8 @@ impl<W> Take<W> {
         W: Holds<Buckets>,
         ensures naps { FirstNap (λ x. W.part (C.shared x)) C.number C.sleeps C.work C.reaches ticket sleep cx.old result self.new.stage cx.new }
         ensures again { OnPending result (is_over self.new.stage ≡ false) }
+        ensures bucket { self.new.bucket ≡ self.old.bucket }
+        ensures n { self.new.n ≡ self.old.n }
         ensures reached { C.reaches cx.old cx.new }
     {
         match self.nap(rt, alloc, cx, ticket, sleep) {
@@ -272,6 +278,8 @@ impl<W> Take<W> {
         W: Holds<Buckets>,
         ensures rests { Rests (λ x. W.part (C.shared x)) C.number C.sleeps C.work C.reaches (deadline_of tick) ticket cx.old result self.new.stage cx.new }
         ensures again { OnPending result (is_over self.new.stage ≡ false) }
+        ensures bucket { self.new.bucket ≡ self.old.bucket }
+        ensures n { self.new.n ≡ self.old.n }
         ensures reached { C.reaches cx.old cx.new }
     {
         match deadline_of(tick) {
@@ -297,6 +305,8 @@ impl<W> Take<W> {
         W: Holds<Buckets>,
         ensures makes { MakesSleep (λ x. W.part (C.shared x)) C.number C.sleeps C.work C.reaches (nanos_of deadline) ticket cx.old result self.new.stage cx.new }
         ensures again { OnPending result (is_over self.new.stage ≡ false) }
+        ensures bucket { self.new.bucket ≡ self.old.bucket }
+        ensures n { self.new.n ≡ self.old.n }
         ensures reached { C.reaches cx.old cx.new }
     {
         match sleep_until(alloc, cx, deadline) {
@@ -321,6 +331,8 @@ impl<W> Take<W> {
         W: Holds<Buckets>,
         ensures asks { AsksFor (λ x. W.part (C.shared x)) C.number C.nanos C.sleeps C.work C.reaches ticket self.old.bucket self.old.n cx.old result self.new.stage cx.new }
         ensures again { OnPending result (is_over self.new.stage ≡ false) }
+        ensures bucket { self.new.bucket ≡ self.old.bucket }
+        ensures n { self.new.n ≡ self.old.n }
         ensures reached { C.reaches cx.old cx.new }
     {
         match ask::<W, C>(alloc, cx, ticket, self.bucket, self.n) {
@@ -352,6 +364,8 @@ impl<W> Take<W> {
         W: Holds<Buckets>,
         ensures goes_on { GoesOn (λ x. W.part (C.shared x)) C.number C.nanos C.sleeps C.work C.reaches ticket self.old.bucket self.old.n cx.old result self.new.stage cx.new }
         ensures again { OnPending result (is_over self.new.stage ≡ false) }
+        ensures bucket { self.new.bucket ≡ self.old.bucket }
+        ensures n { self.new.n ≡ self.old.n }
         ensures reached { C.reaches cx.old cx.new }
     {
         match enter::<W, C>(cx, ticket, self.bucket) {
@@ -369,7 +383,7 @@ impl<W> Take<W> {
 impl<W: Holds<Buckets>, C: TimeContext + SharedContext<W>> TaskFuture<C> for Take<W> {
     type Output = Result<(), TakeError>;
 
-    ghost is_spent = { λ f. is_over f.stage };
+    ghost is_spent = { take_spent };
 
     ghost polls = { λ f c r g d. TakePolls (λ x. W.part (C.shared x)) C.number C.nanos C.sleeps C.work C.reaches f.stage f.bucket f.n c r g.stage d };
 

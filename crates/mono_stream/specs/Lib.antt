@@ -6,3 +6,4 @@ pub mod Chains
 pub mod ForEaches
 pub mod Items
 pub mod Examples
+pub mod Spent

@@ -19,3 +19,7 @@ pub mod ListedLemmas
 pub mod OwnLemmas
 pub mod IdleLemmas
 pub mod RisingLemmas
+mod TouchedLemmas
+mod ManyLemmas
+mod MadeLemmas
+mod EmptyLineLemmas

@@ -1,5 +1,5 @@
 -- The answer and the effect of one poll of a future that receives the one message.
-use Rattle.std.specs.Prelude.{⊤, ◌≡◌, ◌⊎◌, ℕ, Option, Some, Result, Ok, Err}
+use Rattle.std.specs.Prelude.{⊤, ◌≡◌, ◌⊎◌, ℕ, Option, Some, None, Result, Ok, Err}
 use Rattle.mono_model.specs.Tasks.{Tasks}
 use Rattle.mono_model.specs.declared.poll.Poll.{Poll}
 use Rattle.mono_model.specs.declared.poll.Poll.TheVariants.{Ready, Pending}
@@ -21,3 +21,10 @@ module _ {T C : Type 0} (part : C → Oneshot T) (number : C → ℕ) (work : C 
   -- The future leaves the line.
   abbrev pub RecvCancels : Option ℕ → C → C → Type 0
   RecvCancels ticket c d = GivesUp (part c) ticket (number c) (part d) × (work d ≡ work c)
+
+  -- The answer is that of a poll of such a future in some context.
+  pub record RecvGives (answer : Result T RecvError) : Type 0 where
+    pub ticket : Option ℕ
+    pub at : C
+    pub after : C
+    pub polled : RecvPolls ticket at (Ready answer) None after

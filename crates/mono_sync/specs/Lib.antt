@@ -20,3 +20,11 @@ pub mod WatchRuns
 pub mod Notifications
 pub mod Changes
 pub mod Deliveries
+pub mod Spent
+pub mod Touched
+pub mod Many
+pub mod ManyLeads
+pub mod PlaceLends
+pub mod ManyLends
+pub mod KeyedCalls
+pub mod KeyedDeliveries

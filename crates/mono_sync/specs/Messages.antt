@@ -38,3 +38,17 @@ module _ {T C : Type 0} (part : C → Channel T) (number : C → ℕ) (work : C 
   -- The future leaves the line.
   abbrev pub RecvCancels : Option ℕ → C → C → Type 0
   RecvCancels ticket c d = GivesUpReceive (part c) ticket (number c) (part d) × (work d ≡ work c)
+
+  -- The answer is that of a poll of a future that has this message, in some context.
+  pub record SendGives (message : Option T) (answer : Result ⊤ (SendError T)) : Type 0 where
+    pub ticket : Option ℕ
+    pub at : C
+    pub after : C
+    pub polled : SendPolls message ticket at (Ready answer) None None after
+
+  -- The answer is that of a poll of such a future in some context.
+  pub record RecvGives (answer : Result (Option T) AllocError) : Type 0 where
+    pub ticket : Option ℕ
+    pub at : C
+    pub after : C
+    pub polled : RecvPolls ticket at (Ready answer) None after

@@ -1,5 +1,5 @@
 -- The answer and the effect of one poll of a future that waits for a notice.
-use Rattle.std.specs.Prelude.{⊤, ◌≡◌, ◌⊎◌, ℕ, Option, Some, Result, Ok, Err}
+use Rattle.std.specs.Prelude.{⊤, ◌≡◌, ◌⊎◌, ℕ, Option, Some, None, Result, Ok, Err}
 use Rattle.std.specs.declared.alloc.AllocError.{AllocError}
 use Rattle.mono_model.specs.Tasks.{Tasks}
 use Rattle.mono_model.specs.declared.poll.Poll.{Poll}
@@ -18,3 +18,10 @@ module _ {C : Type 0} (part : C → Notify) (number : C → ℕ) (work : C → T
   -- The future leaves the line, or passes its notice on.
   abbrev pub NotifiedCancels : Option ℕ → C → C → Type 0
   NotifiedCancels ticket c d = GivesUp (part c) ticket (number c) (part d) × (work d ≡ work c)
+
+  -- The answer is that of a poll of such a future in some context.
+  pub record NotifiedGives (answer : Result ⊤ AllocError) : Type 0 where
+    pub ticket : Option ℕ
+    pub at : C
+    pub after : C
+    pub polled : NotifiedPolls ticket at (Ready answer) None after

@@ -3,7 +3,8 @@ ghost use Rattle.std.specs.Prelude.{◌≡◌, true, false, ℕ};
 ghost use Rattle.std.specs.declared.option.Option.TheVariants.{None};
 ghost use Rattle.mono_model.specs.Poll.{OnReady};
 ghost use Rattle.mono_sync.specs.Watches.{Sends, Changes, GivesUp, Closes};
-ghost use Rattle.mono_sync.specs.Changes.{ChangedPolls, ChangedCancels};
+ghost use Rattle.mono_sync.specs.Changes.{ChangedPolls, ChangedGives, ChangedCancels};
+ghost use Rattle.mono_sync.specs.Spent.{changed_spent};
 ghost use Rattle.mono_task.specs.Owed.{Keeps};
 
 use crate::parts::Holds;
@@ -50,7 +51,7 @@ impl<W, T> Changed<W, T> {
 }
 
 // Asks the watched value for a future of this task.
-fn ask_part<T: Drop, W: Holds<Watch<T>>>(
+fn ask_part<W: Holds<Watch<T>>, T: Drop>(
     whole: &mut W,
     seen: u64,
     ticket: Option<u64>,
@@ -64,7 +65,7 @@ fn ask_part<T: Drop, W: Holds<Watch<T>>>(
 }
 
 // Takes a future out of the line.
-fn leave_part<T: Drop, W: Holds<Watch<T>>>(whole: &mut W, ticket: Option<u64>, me: u64)
+fn leave_part<W: Holds<Watch<T>>, T: Drop>(whole: &mut W, ticket: Option<u64>, me: u64)
     ensures answer { GivesUp (W.part whole.old) ticket me (W.part whole.new) }
     ensures leads { W.leads whole.old whole.new }
     ensures keeps { Keeps W.lists me whole.old whole.new }
@@ -73,7 +74,7 @@ fn leave_part<T: Drop, W: Holds<Watch<T>>>(whole: &mut W, ticket: Option<u64>, m
 }
 
 // Replaces the value.
-fn send_part<T: Drop, W: Holds<Watch<T>>>(whole: &mut W, value: T) -> Result<T, T>
+fn send_part<W: Holds<Watch<T>>, T: Drop>(whole: &mut W, value: T) -> Result<T, T>
     ensures answer { Sends (W.part whole.old) value result (W.part whole.new) }
     ensures leads { W.leads whole.old whole.new }
     ensures keeps { (me : ℕ) → Keeps W.lists me whole.old whole.new }
@@ -82,7 +83,7 @@ fn send_part<T: Drop, W: Holds<Watch<T>>>(whole: &mut W, value: T) -> Result<T, 
 }
 
 // Closes the value.
-fn close_part<T: Drop, W: Holds<Watch<T>>>(whole: &mut W)
+fn close_part<W: Holds<Watch<T>>, T: Drop>(whole: &mut W)
     ensures answer { Closes (W.part whole.old) (W.part whole.new) }
     ensures leads { W.leads whole.old whole.new }
     ensures keeps { (me : ℕ) → Keeps W.lists me whole.old whole.new }
@@ -91,7 +92,7 @@ fn close_part<T: Drop, W: Holds<Watch<T>>>(whole: &mut W)
 }
 
 // Asks the watched value for the running task's future.
-fn ask<T: Drop, W: Holds<Watch<T>>, C: SharedContext<W>>(
+fn ask<W: Holds<Watch<T>>, T: Drop, C: SharedContext<W>>(
     cx: &mut C,
     seen: u64,
     ticket: Option<u64>,
@@ -101,48 +102,50 @@ fn ask<T: Drop, W: Holds<Watch<T>>, C: SharedContext<W>>(
     ensures reached { C.reaches cx.old cx.new }
 {
     let me = cx.me();
-    ask_part::<T, W>(cx.shared_mut(), seen, ticket, me)
+    ask_part::<W, T>(cx.shared_mut(), seen, ticket, me)
 }
 
 // Takes the running task's future out of the line.
-fn leave<T: Drop, W: Holds<Watch<T>>, C: SharedContext<W>>(cx: &mut C, ticket: Option<u64>)
+fn leave<W: Holds<Watch<T>>, T: Drop, C: SharedContext<W>>(cx: &mut C, ticket: Option<u64>)
     ensures answer { GivesUp (W.part (C.shared cx.old)) ticket (C.number cx.old) (W.part (C.shared cx.new)) }
     ensures work { C.work cx.new ≡ C.work cx.old }
     ensures reached { C.reaches cx.old cx.new }
 {
     let me = cx.me();
-    leave_part::<T, W>(cx.shared_mut(), ticket, me)
+    leave_part::<W, T>(cx.shared_mut(), ticket, me)
 }
 
 /// Replaces the watched value, and returns the value before. The runtime wakes all tasks that wait for another after the
 /// turn.
 ///
 /// The new value comes back if the watched value was closed, or if no version is left.
-pub fn send<T: Drop, W: Holds<Watch<T>>, C: SharedContext<W>>(cx: &mut C, value: T) -> Result<T, T>
+pub fn send<W: Holds<Watch<T>>, T: Drop, C: SharedContext<W>>(cx: &mut C, value: T) -> Result<T, T>
     ensures answer { Sends (W.part (C.shared cx.old)) value result (W.part (C.shared cx.new)) }
     ensures work { C.work cx.new ≡ C.work cx.old }
     ensures reached { C.reaches cx.old cx.new }
 {
-    send_part::<T, W>(cx.shared_mut(), value)
+    send_part::<W, T>(cx.shared_mut(), value)
 }
 
 /// Closes the watched value. The runtime wakes all tasks that wait for another after the turn.
-pub fn close<T: Drop, W: Holds<Watch<T>>, C: SharedContext<W>>(cx: &mut C)
+pub fn close<W: Holds<Watch<T>>, T: Drop, C: SharedContext<W>>(cx: &mut C)
     ensures answer { Closes (W.part (C.shared cx.old)) (W.part (C.shared cx.new)) }
     ensures work { C.work cx.new ≡ C.work cx.old }
     ensures reached { C.reaches cx.old cx.new }
 {
-    close_part::<T, W>(cx.shared_mut())
+    close_part::<W, T>(cx.shared_mut())
 }
 
 /// The future answers the version of the last value once it differs from the seen one. It fails if the value was
 /// closed, or if out of memory.
-impl<T: Drop, W: Holds<Watch<T>>, C: SharedContext<W>> TaskFuture<C> for Changed<W, T> {
+impl<W: Holds<Watch<T>>, T: Drop, C: SharedContext<W>> TaskFuture<C> for Changed<W, T> {
     type Output = Result<u64, ChangedError>;
 
-    ghost is_spent = { λ f. f.has_answered };
+    ghost is_spent = { changed_spent };
 
     ghost polls = { λ f c r g d. ChangedPolls (λ x. W.part (C.shared x)) C.number C.work f.seen f.ticket c r g.ticket d × (g.seen ≡ f.seen) × OnReady r ((g.ticket ≡ None) × (g.has_answered ≡ true)) };
+
+    ghost gives = { λ f. ChangedGives (λ x. W.part (C.shared x)) C.number C.work f.seen };
 
     ghost cancels = { λ f c d. ChangedCancels (λ x. W.part (C.shared x)) C.number C.work f.ticket c d };
 
@@ -156,7 +159,7 @@ impl<T: Drop, W: Holds<Watch<T>>, C: SharedContext<W>> TaskFuture<C> for Changed
         _alloc: Global,
         cx: &mut C,
     ) -> Poll<Result<u64, ChangedError>> {
-        match ask::<T, W, C>(cx, self.seen, self.ticket) {
+        match ask::<W, T, C>(cx, self.seen, self.ticket) {
             Changing::Waits => Poll::Pending,
             Changing::Joined(ticket) => {
                 self.ticket = Some(ticket);
@@ -181,6 +184,6 @@ impl<T: Drop, W: Holds<Watch<T>>, C: SharedContext<W>> TaskFuture<C> for Changed
     }
 
     fn cancel(self, cx: &mut C) {
-        leave::<T, W, C>(cx, self.ticket)
+        leave::<W, T, C>(cx, self.ticket)
     }
 }

@@ -3,7 +3,8 @@ ghost use Rattle.std.specs.Prelude.{◌≡◌, true, false, ℕ};
 ghost use Rattle.std.specs.declared.option.Option.TheVariants.{None};
 ghost use Rattle.mono_model.specs.Poll.{OnReady};
 ghost use Rattle.mono_sync.specs.Oneshot.{Sends, Receives, Closes, GivesUp};
-ghost use Rattle.mono_sync.specs.Deliveries.{RecvPolls, RecvCancels};
+ghost use Rattle.mono_sync.specs.Deliveries.{RecvPolls, RecvGives, RecvCancels};
+ghost use Rattle.mono_sync.specs.Spent.{oneshot_spent};
 ghost use Rattle.mono_task.specs.Owed.{Keeps};
 
 use crate::oneshot::{Oneshot, Receiving};
@@ -49,7 +50,7 @@ impl<W, T> Recv<W, T> {
 }
 
 // Asks the channel for a future of this task.
-fn ask_part<T: Drop, W: Holds<Oneshot<T>>>(
+fn ask_part<W: Holds<Oneshot<T>>, T: Drop>(
     whole: &mut W,
     ticket: Option<u64>,
     me: u64,
@@ -62,7 +63,7 @@ fn ask_part<T: Drop, W: Holds<Oneshot<T>>>(
 }
 
 // Takes a future out of the line.
-fn leave_part<T: Drop, W: Holds<Oneshot<T>>>(whole: &mut W, ticket: Option<u64>, me: u64)
+fn leave_part<W: Holds<Oneshot<T>>, T: Drop>(whole: &mut W, ticket: Option<u64>, me: u64)
     ensures answer { GivesUp (W.part whole.old) ticket me (W.part whole.new) }
     ensures leads { W.leads whole.old whole.new }
     ensures keeps { Keeps W.lists me whole.old whole.new }
@@ -71,7 +72,7 @@ fn leave_part<T: Drop, W: Holds<Oneshot<T>>>(whole: &mut W, ticket: Option<u64>,
 }
 
 // Sends the message.
-fn send_part<T: Drop, W: Holds<Oneshot<T>>>(whole: &mut W, message: T) -> Result<(), T>
+fn send_part<W: Holds<Oneshot<T>>, T: Drop>(whole: &mut W, message: T) -> Result<(), T>
     ensures answer { Sends (W.part whole.old) message result (W.part whole.new) }
     ensures leads { W.leads whole.old whole.new }
     ensures keeps { (me : ℕ) → Keeps W.lists me whole.old whole.new }
@@ -80,7 +81,7 @@ fn send_part<T: Drop, W: Holds<Oneshot<T>>>(whole: &mut W, message: T) -> Result
 }
 
 // Closes the channel.
-fn close_part<T: Drop, W: Holds<Oneshot<T>>>(whole: &mut W)
+fn close_part<W: Holds<Oneshot<T>>, T: Drop>(whole: &mut W)
     ensures answer { Closes (W.part whole.old) (W.part whole.new) }
     ensures leads { W.leads whole.old whole.new }
     ensures keeps { (me : ℕ) → Keeps W.lists me whole.old whole.new }
@@ -89,7 +90,7 @@ fn close_part<T: Drop, W: Holds<Oneshot<T>>>(whole: &mut W)
 }
 
 // Asks the channel for the running task's future.
-fn ask<T: Drop, W: Holds<Oneshot<T>>, C: SharedContext<W>>(
+fn ask<W: Holds<Oneshot<T>>, T: Drop, C: SharedContext<W>>(
     cx: &mut C,
     ticket: Option<u64>,
 ) -> Receiving<T>
@@ -98,22 +99,22 @@ fn ask<T: Drop, W: Holds<Oneshot<T>>, C: SharedContext<W>>(
     ensures reached { C.reaches cx.old cx.new }
 {
     let me = cx.me();
-    ask_part::<T, W>(cx.shared_mut(), ticket, me)
+    ask_part::<W, T>(cx.shared_mut(), ticket, me)
 }
 
 // Takes the running task's future out of the line.
-fn leave<T: Drop, W: Holds<Oneshot<T>>, C: SharedContext<W>>(cx: &mut C, ticket: Option<u64>)
+fn leave<W: Holds<Oneshot<T>>, T: Drop, C: SharedContext<W>>(cx: &mut C, ticket: Option<u64>)
     ensures answer { GivesUp (W.part (C.shared cx.old)) ticket (C.number cx.old) (W.part (C.shared cx.new)) }
     ensures work { C.work cx.new ≡ C.work cx.old }
     ensures reached { C.reaches cx.old cx.new }
 {
     let me = cx.me();
-    leave_part::<T, W>(cx.shared_mut(), ticket, me)
+    leave_part::<W, T>(cx.shared_mut(), ticket, me)
 }
 
 /// Sends the message. The runtime wakes the task that waits for it after the turn. The message comes back if one was sent
 /// before or the channel was closed.
-pub fn send<T: Drop, W: Holds<Oneshot<T>>, C: SharedContext<W>>(
+pub fn send<W: Holds<Oneshot<T>>, T: Drop, C: SharedContext<W>>(
     cx: &mut C,
     message: T,
 ) -> Result<(), T>
@@ -121,26 +122,28 @@ pub fn send<T: Drop, W: Holds<Oneshot<T>>, C: SharedContext<W>>(
     ensures work { C.work cx.new ≡ C.work cx.old }
     ensures reached { C.reaches cx.old cx.new }
 {
-    send_part::<T, W>(cx.shared_mut(), message)
+    send_part::<W, T>(cx.shared_mut(), message)
 }
 
 /// Closes the channel. The runtime wakes the task that waits after the turn. A message that was sent can still be received.
-pub fn close<T: Drop, W: Holds<Oneshot<T>>, C: SharedContext<W>>(cx: &mut C)
+pub fn close<W: Holds<Oneshot<T>>, T: Drop, C: SharedContext<W>>(cx: &mut C)
     ensures answer { Closes (W.part (C.shared cx.old)) (W.part (C.shared cx.new)) }
     ensures work { C.work cx.new ≡ C.work cx.old }
     ensures reached { C.reaches cx.old cx.new }
 {
-    close_part::<T, W>(cx.shared_mut())
+    close_part::<W, T>(cx.shared_mut())
 }
 
 /// The future answers the message. It fails if the channel was closed before one was sent, if another future waits for
 /// it, or if out of memory.
-impl<T: Drop, W: Holds<Oneshot<T>>, C: SharedContext<W>> TaskFuture<C> for Recv<W, T> {
+impl<W: Holds<Oneshot<T>>, T: Drop, C: SharedContext<W>> TaskFuture<C> for Recv<W, T> {
     type Output = Result<T, RecvError>;
 
-    ghost is_spent = { λ f. f.has_answered };
+    ghost is_spent = { oneshot_spent };
 
     ghost polls = { λ f c r g d. RecvPolls (λ x. W.part (C.shared x)) C.number C.work f.ticket c r g.ticket d × OnReady r ((g.ticket ≡ None) × (g.has_answered ≡ true)) };
+
+    ghost gives = { λ f. RecvGives (λ x. W.part (C.shared x)) C.number C.work };
 
     ghost cancels = { λ f c d. RecvCancels (λ x. W.part (C.shared x)) C.number C.work f.ticket c d };
 
@@ -149,7 +152,7 @@ impl<T: Drop, W: Holds<Oneshot<T>>, C: SharedContext<W>> TaskFuture<C> for Recv<
     }
 
     fn poll<R: Host>(&mut self, _rt: &R, _alloc: Global, cx: &mut C) -> Poll<Result<T, RecvError>> {
-        match ask::<T, W, C>(cx, self.ticket) {
+        match ask::<W, T, C>(cx, self.ticket) {
             Receiving::Waits => Poll::Pending,
             Receiving::Joined(ticket) => {
                 self.ticket = Some(ticket);
@@ -179,6 +182,6 @@ impl<T: Drop, W: Holds<Oneshot<T>>, C: SharedContext<W>> TaskFuture<C> for Recv<
     }
 
     fn cancel(self, cx: &mut C) {
-        leave::<T, W, C>(cx, self.ticket)
+        leave::<W, T, C>(cx, self.ticket)
     }
 }

@@ -3,7 +3,8 @@ ghost use Rattle.std.specs.Prelude.{◌≡◌, true, false, ℕ};
 ghost use Rattle.std.specs.declared.option.Option.TheVariants.{None, Some};
 ghost use Rattle.mono_model.specs.Poll.{OnReady};
 ghost use Rattle.mono_sync.specs.Mpsc.{TriesToSend, TriesToReceive, Sends, Receives, GivesUpSend, GivesUpReceive, Closes};
-ghost use Rattle.mono_sync.specs.Messages.{SendPolls, SendCancels, RecvPolls, RecvCancels, has_none};
+ghost use Rattle.mono_sync.specs.Messages.{SendPolls, SendGives, SendCancels, RecvPolls, RecvGives, RecvCancels};
+ghost use Rattle.mono_sync.specs.Spent.{send_spent, recv_spent};
 ghost use Rattle.mono_task.specs.Owed.{Keeps};
 
 use crate::mpsc::{Channel, Receiving, Sending, TryRecvError, TrySendError};
@@ -71,7 +72,7 @@ impl<W, T> Recv<W, T> {
 }
 
 // Queues a message at once.
-fn try_send_part<T: Drop, W: Holds<Channel<T>>>(
+fn try_send_part<W: Holds<Channel<T>>, T: Drop>(
     whole: &mut W,
     message: T,
 ) -> Result<(), TrySendError<T>>
@@ -83,7 +84,7 @@ fn try_send_part<T: Drop, W: Holds<Channel<T>>>(
 }
 
 // Takes a message at once.
-fn try_recv_part<T: Drop, W: Holds<Channel<T>>>(whole: &mut W) -> Result<T, TryRecvError>
+fn try_recv_part<W: Holds<Channel<T>>, T: Drop>(whole: &mut W) -> Result<T, TryRecvError>
     ensures answer { TriesToReceive (W.part whole.old) result (W.part whole.new) }
     ensures leads { W.leads whole.old whole.new }
     ensures keeps { (me : ℕ) → Keeps W.lists me whole.old whole.new }
@@ -92,7 +93,7 @@ fn try_recv_part<T: Drop, W: Holds<Channel<T>>>(whole: &mut W) -> Result<T, TryR
 }
 
 // Asks the channel for a future of this task that sends.
-fn send_part<T: Drop, W: Holds<Channel<T>>>(
+fn send_part<W: Holds<Channel<T>>, T: Drop>(
     whole: &mut W,
     ticket: Option<u64>,
     message: T,
@@ -106,7 +107,7 @@ fn send_part<T: Drop, W: Holds<Channel<T>>>(
 }
 
 // Asks the channel for a future of this task that receives.
-fn recv_part<T: Drop, W: Holds<Channel<T>>>(
+fn recv_part<W: Holds<Channel<T>>, T: Drop>(
     whole: &mut W,
     ticket: Option<u64>,
     me: u64,
@@ -119,7 +120,7 @@ fn recv_part<T: Drop, W: Holds<Channel<T>>>(
 }
 
 // Takes a future out of the line of senders.
-fn leave_send_part<T: Drop, W: Holds<Channel<T>>>(whole: &mut W, ticket: Option<u64>, me: u64)
+fn leave_send_part<W: Holds<Channel<T>>, T: Drop>(whole: &mut W, ticket: Option<u64>, me: u64)
     ensures answer { GivesUpSend (W.part whole.old) ticket me (W.part whole.new) }
     ensures leads { W.leads whole.old whole.new }
     ensures keeps { Keeps W.lists me whole.old whole.new }
@@ -128,7 +129,7 @@ fn leave_send_part<T: Drop, W: Holds<Channel<T>>>(whole: &mut W, ticket: Option<
 }
 
 // Takes a future out of the line of receivers.
-fn leave_recv_part<T: Drop, W: Holds<Channel<T>>>(whole: &mut W, ticket: Option<u64>, me: u64)
+fn leave_recv_part<W: Holds<Channel<T>>, T: Drop>(whole: &mut W, ticket: Option<u64>, me: u64)
     ensures answer { GivesUpReceive (W.part whole.old) ticket me (W.part whole.new) }
     ensures leads { W.leads whole.old whole.new }
     ensures keeps { Keeps W.lists me whole.old whole.new }
@@ -137,7 +138,7 @@ fn leave_recv_part<T: Drop, W: Holds<Channel<T>>>(whole: &mut W, ticket: Option<
 }
 
 // Closes the channel.
-fn close_part<T: Drop, W: Holds<Channel<T>>>(whole: &mut W)
+fn close_part<W: Holds<Channel<T>>, T: Drop>(whole: &mut W)
     ensures answer { Closes (W.part whole.old) (W.part whole.new) }
     ensures leads { W.leads whole.old whole.new }
     ensures keeps { (me : ℕ) → Keeps W.lists me whole.old whole.new }
@@ -146,7 +147,7 @@ fn close_part<T: Drop, W: Holds<Channel<T>>>(whole: &mut W)
 }
 
 // Asks the channel for the running task's future that sends.
-fn ask_send<T: Drop, W: Holds<Channel<T>>, C: SharedContext<W>>(
+fn ask_send<W: Holds<Channel<T>>, T: Drop, C: SharedContext<W>>(
     cx: &mut C,
     ticket: Option<u64>,
     message: T,
@@ -156,11 +157,11 @@ fn ask_send<T: Drop, W: Holds<Channel<T>>, C: SharedContext<W>>(
     ensures reached { C.reaches cx.old cx.new }
 {
     let me = cx.me();
-    send_part::<T, W>(cx.shared_mut(), ticket, message, me)
+    send_part::<W, T>(cx.shared_mut(), ticket, message, me)
 }
 
 // Asks the channel for the running task's future that receives.
-fn ask_recv<T: Drop, W: Holds<Channel<T>>, C: SharedContext<W>>(
+fn ask_recv<W: Holds<Channel<T>>, T: Drop, C: SharedContext<W>>(
     cx: &mut C,
     ticket: Option<u64>,
 ) -> Receiving<T>
@@ -169,27 +170,27 @@ fn ask_recv<T: Drop, W: Holds<Channel<T>>, C: SharedContext<W>>(
     ensures reached { C.reaches cx.old cx.new }
 {
     let me = cx.me();
-    recv_part::<T, W>(cx.shared_mut(), ticket, me)
+    recv_part::<W, T>(cx.shared_mut(), ticket, me)
 }
 
 // Takes the running task's future out of the line of senders.
-fn leave_send<T: Drop, W: Holds<Channel<T>>, C: SharedContext<W>>(cx: &mut C, ticket: Option<u64>)
+fn leave_send<W: Holds<Channel<T>>, T: Drop, C: SharedContext<W>>(cx: &mut C, ticket: Option<u64>)
     ensures answer { GivesUpSend (W.part (C.shared cx.old)) ticket (C.number cx.old) (W.part (C.shared cx.new)) }
     ensures work { C.work cx.new ≡ C.work cx.old }
     ensures reached { C.reaches cx.old cx.new }
 {
     let me = cx.me();
-    leave_send_part::<T, W>(cx.shared_mut(), ticket, me)
+    leave_send_part::<W, T>(cx.shared_mut(), ticket, me)
 }
 
 // Takes the running task's future out of the line of receivers.
-fn leave_recv<T: Drop, W: Holds<Channel<T>>, C: SharedContext<W>>(cx: &mut C, ticket: Option<u64>)
+fn leave_recv<W: Holds<Channel<T>>, T: Drop, C: SharedContext<W>>(cx: &mut C, ticket: Option<u64>)
     ensures answer { GivesUpReceive (W.part (C.shared cx.old)) ticket (C.number cx.old) (W.part (C.shared cx.new)) }
     ensures work { C.work cx.new ≡ C.work cx.old }
     ensures reached { C.reaches cx.old cx.new }
 {
     let me = cx.me();
-    leave_recv_part::<T, W>(cx.shared_mut(), ticket, me)
+    leave_recv_part::<W, T>(cx.shared_mut(), ticket, me)
 }
 
 /// Sends a message at once. If tasks wait to receive, it is owed to the first of them, which the runtime wakes after the
@@ -197,7 +198,7 @@ fn leave_recv<T: Drop, W: Holds<Channel<T>>, C: SharedContext<W>>(cx: &mut C, ti
 ///
 /// Refused with `Closed` if the channel was closed, with `Full` if no place is free, and with `Memory` if the
 /// allocation failed. A refused message comes back.
-pub fn try_send<T: Drop, W: Holds<Channel<T>>, C: SharedContext<W>>(
+pub fn try_send<W: Holds<Channel<T>>, T: Drop, C: SharedContext<W>>(
     cx: &mut C,
     message: T,
 ) -> Result<(), TrySendError<T>>
@@ -205,7 +206,7 @@ pub fn try_send<T: Drop, W: Holds<Channel<T>>, C: SharedContext<W>>(
     ensures work { C.work cx.new ≡ C.work cx.old }
     ensures reached { C.reaches cx.old cx.new }
 {
-    try_send_part::<T, W>(cx.shared_mut(), message)
+    try_send_part::<W, T>(cx.shared_mut(), message)
 }
 
 /// Receives a message at once. If tasks wait to send, the place is owed to the first of them, which the runtime wakes after
@@ -213,35 +214,37 @@ pub fn try_send<T: Drop, W: Holds<Channel<T>>, C: SharedContext<W>>(
 ///
 /// Refused with `Empty` if no message is queued that is neither promised nor owed, and with `Disconnected` if the channel
 /// was closed and no message is left.
-pub fn try_recv<T: Drop, W: Holds<Channel<T>>, C: SharedContext<W>>(
+pub fn try_recv<W: Holds<Channel<T>>, T: Drop, C: SharedContext<W>>(
     cx: &mut C,
 ) -> Result<T, TryRecvError>
     ensures answer { TriesToReceive (W.part (C.shared cx.old)) result (W.part (C.shared cx.new)) }
     ensures work { C.work cx.new ≡ C.work cx.old }
     ensures reached { C.reaches cx.old cx.new }
 {
-    try_recv_part::<T, W>(cx.shared_mut())
+    try_recv_part::<W, T>(cx.shared_mut())
 }
 
 /// Closes the channel. The runtime wakes all tasks that wait to send, then all that wait to receive, after the turn.
 ///
 /// The queued messages can still be received.
-pub fn close<T: Drop, W: Holds<Channel<T>>, C: SharedContext<W>>(cx: &mut C)
+pub fn close<W: Holds<Channel<T>>, T: Drop, C: SharedContext<W>>(cx: &mut C)
     ensures answer { Closes (W.part (C.shared cx.old)) (W.part (C.shared cx.new)) }
     ensures work { C.work cx.new ≡ C.work cx.old }
     ensures reached { C.reaches cx.old cx.new }
 {
-    close_part::<T, W>(cx.shared_mut())
+    close_part::<W, T>(cx.shared_mut())
 }
 
 /// The future answers once the message is queued. It fails if the channel was closed, or if out of memory; then the
 /// message comes back.
-impl<T: Drop, W: Holds<Channel<T>>, C: SharedContext<W>> TaskFuture<C> for Send<W, T> {
+impl<W: Holds<Channel<T>>, T: Drop, C: SharedContext<W>> TaskFuture<C> for Send<W, T> {
     type Output = Result<(), SendError<T>>;
 
-    ghost is_spent = { λ f. has_none f.message };
+    ghost is_spent = { send_spent };
 
     ghost polls = { λ f c r g d. SendPolls (λ x. W.part (C.shared x)) C.number C.work f.message f.ticket c r g.message g.ticket d × OnReady r ((g.message ≡ None) × (g.ticket ≡ None)) };
+
+    ghost gives = { λ f. SendGives (λ x. W.part (C.shared x)) C.number C.work f.message };
 
     ghost cancels = { λ f c d. SendCancels (λ x. W.part (C.shared x)) C.number C.work f.ticket c d };
 
@@ -258,7 +261,7 @@ impl<T: Drop, W: Holds<Channel<T>>, C: SharedContext<W>> TaskFuture<C> for Send<
         let Some(message) = mem::replace(&mut self.message, None) else {
             unreachable!()
         };
-        match ask_send::<T, W, C>(cx, self.ticket, message) {
+        match ask_send::<W, T, C>(cx, self.ticket, message) {
             Sending::Sent => {
                 self.ticket = None;
                 Poll::Ready(Ok(()))
@@ -284,18 +287,20 @@ impl<T: Drop, W: Holds<Channel<T>>, C: SharedContext<W>> TaskFuture<C> for Send<
     }
 
     fn cancel(self, cx: &mut C) {
-        leave_send::<T, W, C>(cx, self.ticket)
+        leave_send::<W, T, C>(cx, self.ticket)
     }
 }
 
 /// The future answers the first message, or none once the channel was closed and no message is left. It fails if out of
 /// memory.
-impl<T: Drop, W: Holds<Channel<T>>, C: SharedContext<W>> TaskFuture<C> for Recv<W, T> {
+impl<W: Holds<Channel<T>>, T: Drop, C: SharedContext<W>> TaskFuture<C> for Recv<W, T> {
     type Output = Result<Option<T>, AllocError>;
 
-    ghost is_spent = { λ f. f.has_answered };
+    ghost is_spent = { recv_spent };
 
     ghost polls = { λ f c r g d. RecvPolls (λ x. W.part (C.shared x)) C.number C.work f.ticket c r g.ticket d × OnReady r ((g.ticket ≡ None) × (g.has_answered ≡ true)) };
+
+    ghost gives = { λ f. RecvGives (λ x. W.part (C.shared x)) C.number C.work };
 
     ghost cancels = { λ f c d. RecvCancels (λ x. W.part (C.shared x)) C.number C.work f.ticket c d };
 
@@ -309,7 +314,7 @@ impl<T: Drop, W: Holds<Channel<T>>, C: SharedContext<W>> TaskFuture<C> for Recv<
         _alloc: Global,
         cx: &mut C,
     ) -> Poll<Result<Option<T>, AllocError>> {
-        match ask_recv::<T, W, C>(cx, self.ticket) {
+        match ask_recv::<W, T, C>(cx, self.ticket) {
             Receiving::Waits => Poll::Pending,
             Receiving::Joined(ticket) => {
                 self.ticket = Some(ticket);
@@ -334,6 +339,6 @@ impl<T: Drop, W: Holds<Channel<T>>, C: SharedContext<W>> TaskFuture<C> for Recv<
     }
 
     fn cancel(self, cx: &mut C) {
-        leave_recv::<T, W, C>(cx, self.ticket)
+        leave_recv::<W, T, C>(cx, self.ticket)
     }
 }

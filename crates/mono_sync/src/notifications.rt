@@ -3,7 +3,8 @@ ghost use Rattle.std.specs.Prelude.{◌≡◌, true, false, ℕ};
 ghost use Rattle.std.specs.declared.option.Option.TheVariants.{None};
 ghost use Rattle.mono_model.specs.Poll.{OnReady};
 ghost use Rattle.mono_sync.specs.Notices.{NotifiesOne, NotifiesAll, Awaits, GivesUp};
-ghost use Rattle.mono_sync.specs.Notifications.{NotifiedPolls, NotifiedCancels};
+ghost use Rattle.mono_sync.specs.Notifications.{NotifiedPolls, NotifiedGives, NotifiedCancels};
+ghost use Rattle.mono_sync.specs.Spent.{notified_spent};
 ghost use Rattle.mono_task.specs.Owed.{Keeps};
 
 use crate::notices::{Notify, Notifying};
@@ -114,9 +115,11 @@ pub fn notify_waiters<W: Holds<Notify>, C: SharedContext<W>>(cx: &mut C)
 impl<W: Holds<Notify>, C: SharedContext<W>> TaskFuture<C> for Notified<W> {
     type Output = Result<(), AllocError>;
 
-    ghost is_spent = { λ f. f.has_answered };
+    ghost is_spent = { notified_spent };
 
     ghost polls = { λ f c r g d. NotifiedPolls (λ x. W.part (C.shared x)) C.number C.work f.ticket c r g.ticket d × OnReady r ((g.ticket ≡ None) × (g.has_answered ≡ true)) };
+
+    ghost gives = { λ f. NotifiedGives (λ x. W.part (C.shared x)) C.number C.work };
 
     ghost cancels = { λ f c d. NotifiedCancels (λ x. W.part (C.shared x)) C.number C.work f.ticket c d };
 

@@ -9,6 +9,7 @@ ghost use Rattle.mono_sync.specs.Listed.{oneshot_some};
 ghost use Rattle.mono_task.specs.Owed.{Keeps};
 
 pub use crate::deliveries::{Recv, RecvError, close, send};
+pub use crate::keyed_deliveries::{RecvAt, close_at, send_at};
 use crate::lines::{Coming, Line, Waiter};
 use mono_task::SharedState;
 use std::alloc::Global;

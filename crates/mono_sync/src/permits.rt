@@ -3,7 +3,8 @@ ghost use Rattle.std.specs.Prelude.{◌≡◌, true, false, ℕ};
 ghost use Rattle.std.specs.declared.option.Option.TheVariants.{None};
 ghost use Rattle.mono_model.specs.Poll.{OnReady};
 ghost use Rattle.mono_sync.specs.Semaphores.{TriesToAcquire, Acquires, Releases, GivesUp, Closes};
-ghost use Rattle.mono_sync.specs.Permits.{AcquirePolls, AcquireCancels};
+ghost use Rattle.mono_sync.specs.Permits.{AcquirePolls, AcquireGives, AcquireCancels};
+ghost use Rattle.mono_sync.specs.Spent.{acquire_spent};
 ghost use Rattle.mono_task.specs.Owed.{Keeps};
 
 use crate::parts::Holds;
@@ -144,9 +145,11 @@ pub fn close<W: Holds<Semaphore>, C: SharedContext<W>>(cx: &mut C)
 impl<W: Holds<Semaphore>, C: SharedContext<W>> TaskFuture<C> for Acquire<W> {
     type Output = Result<(), AcquireError>;
 
-    ghost is_spent = { λ f. f.has_answered };
+    ghost is_spent = { acquire_spent };
 
     ghost polls = { λ f c r g d. AcquirePolls (λ x. W.part (C.shared x)) C.number C.work f.ticket c r g.ticket d × OnReady r ((g.ticket ≡ None) × (g.has_answered ≡ true)) };
+
+    ghost gives = { λ f. AcquireGives (λ x. W.part (C.shared x)) C.number C.work };
 
     ghost cancels = { λ f c d. AcquireCancels (λ x. W.part (C.shared x)) C.number C.work f.ticket c d };
 

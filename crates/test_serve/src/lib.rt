@@ -4,6 +4,8 @@
 #[cfg(test)]
 mod desks;
 #[cfg(test)]
+mod forms;
+#[cfg(test)]
 mod handovers;
 #[cfg(test)]
 mod many;

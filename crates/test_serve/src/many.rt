@@ -66,5 +66,5 @@ fn many_sessions_wait_for_a_key(rt: HostRuntime) {
         waits = waits & matches!(answer, Claimed::Waits(_));
     }
     assert!(rt; waits);
-    assert_eq!(rt; leases.holder(5), Some(first));
+    assert_eq!(rt; leases.owner(5), Some(first));
 }

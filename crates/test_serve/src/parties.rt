@@ -124,12 +124,12 @@ impl Party {
                 again(cx);
             }
             Deed::Send(from, to, message) => {
-                let answer = mail::send::<u64, Desk, C>(cx, from, to, message);
+                let answer = mail::send::<Desk, u64, C>(cx, from, to, message);
                 answered(cx, self.name, posted(answer));
             }
             Deed::SendAndStop(from, to, message) => {
-                let answer = mail::send::<u64, Desk, C>(cx, from, to, message);
-                let _ = mail::stop::<u64, Desk, C>(cx, to);
+                let answer = mail::send::<Desk, u64, C>(cx, from, to, message);
+                let _ = mail::stop::<Desk, u64, C>(cx, to);
                 answered(cx, self.name, posted(answer));
             }
             Deed::Open(limit_ms) => {

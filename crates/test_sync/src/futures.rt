@@ -66,9 +66,9 @@ impl Trial {
 fn give<C: SharedContext<Board>>(cx: &mut C) -> bool
     ensures { C.reaches cx.old cx.new }
 {
-    let sent = oneshot::send::<u64, Board, C>(cx, 10);
+    let sent = oneshot::send::<Board, u64, C>(cx, 10);
     notify_one::<Board, C>(cx);
-    let replaced = watch::send::<u64, Board, C>(cx, 20);
+    let replaced = watch::send::<Board, u64, C>(cx, 20);
     sent.is_ok() && replaced.is_ok()
 }
 

@@ -5,6 +5,8 @@ pub mod boards;
 #[cfg(test)]
 mod channels;
 #[cfg(test)]
+mod forms;
+#[cfg(test)]
 mod futures;
 #[cfg(test)]
 mod many;
@@ -15,6 +17,10 @@ mod notices;
 #[cfg(test)]
 mod oneshots;
 #[cfg(test)]
+mod requests;
+#[cfg(test)]
 mod semaphores;
+#[cfg(test)]
+mod tables;
 #[cfg(test)]
 mod watches;

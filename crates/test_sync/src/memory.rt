@@ -1,8 +1,9 @@
 // Each call that takes memory, repeated after a refusal: the refused call changed nothing. The tests hold with and
 // without a refusal; run them with each allocation refused in turn.
 use mono_sync::mpsc::{Channel, Receiving, Sending, TrySendError};
+use mono_sync::oneshot::Oneshot;
 use mono_sync::watch::{Changing, Watch};
-use mono_sync::{Acquiring, Notify, Notifying, Semaphore};
+use mono_sync::{Acquiring, Many, Notify, Notifying, Semaphore};
 
 #[test]
 fn refused_message(rt: HostRuntime) {
@@ -58,4 +59,16 @@ fn refused_watcher(rt: HostRuntime) {
         assert!(rt; matches!(watch.changed(0, None, 1), Changing::Joined(0)));
     }
     assert!(rt; matches!(watch.changed(0, Some(0), 1), Changing::Waits));
+}
+
+#[test]
+fn refused_part(rt: HostRuntime) {
+    let mut channels: Many<Oneshot<u64>> = Many::new(rt.alloc());
+    if channels.make(rt.alloc(), Oneshot::new(rt.alloc())).is_err() {
+        assert_eq!(rt; channels.len(), 0);
+        assert!(rt; matches!(channels.make(rt.alloc(), Oneshot::new(rt.alloc())), Ok(0)));
+    }
+    assert_eq!(rt; channels.len(), 1);
+    assert!(rt; channels.remove(0).is_ok());
+    assert_eq!(rt; channels.len(), 0);
 }

@@ -1,0 +1,35 @@
+-- Which futures have answered. Such a future may not be polled.
+use Rattle.std.specs.Prelude.{Bool}
+use Rattle.mono_sync.specs.declared.permits.Acquire.{Acquire}
+use Rattle.mono_sync.specs.declared.notifications.Notified.{Notified}
+use Rattle.mono_sync.specs.declared.messages.Send.{Send}
+use Rattle.mono_sync.specs.declared.messages.Recv as messages
+use Rattle.mono_sync.specs.declared.deliveries.Recv as deliveries
+use Rattle.mono_sync.specs.declared.keyed_deliveries.RecvAt.{RecvAt}
+use Rattle.mono_sync.specs.declared.changes.Changed.{Changed}
+use Rattle.mono_sync.specs.Messages.{has_none}
+
+module _ {W : Type 0} where
+  abbrev pub acquire_spent : Acquire W → Bool
+  acquire_spent f = f.has_answered
+
+  abbrev pub notified_spent : Notified W → Bool
+  notified_spent f = f.has_answered
+
+module _ {W T : Type 0} where
+  -- of a channel
+  abbrev pub send_spent : Send W T → Bool
+  send_spent f = has_none f.message
+
+  abbrev pub recv_spent : messages.Recv W T → Bool
+  recv_spent f = f.has_answered
+
+  -- of a oneshot channel
+  abbrev pub oneshot_spent : deliveries.Recv W T → Bool
+  oneshot_spent f = f.has_answered
+
+  abbrev pub oneshot_at_spent : RecvAt W T → Bool
+  oneshot_at_spent f = f.has_answered
+
+  abbrev pub changed_spent : Changed W T → Bool
+  changed_spent f = f.has_answered
