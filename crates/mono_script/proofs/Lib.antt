@@ -11,3 +11,4 @@ pub mod MainPlaceLemmas
 pub mod FollowLemmas
 pub mod TopCallLemmas
 pub mod FollowWordLemmas
+pub mod LineFormLemmas

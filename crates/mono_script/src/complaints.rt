@@ -97,6 +97,30 @@ fn word_at<'a>(words: &'a Vec<String>, is_whole: bool, at: usize) -> Option<&'a 
     }
 }
 
+// Returns whether a word after the first so many is this one.
+fn has_word(words: &Vec<String>, from: usize, word: &str) -> bool {
+    for other in words.iter().skip(from) {
+        if other.as_str() == word {
+            return true;
+        }
+    }
+    false
+}
+
+// Returns where a word stands that begins with `--`, if it stands elsewhere.
+fn misplaced(words: &Vec<String>) -> Option<&'static str> {
+    if has_word(words, 0, "--follow") {
+        return Some(
+            "\"--follow\" goes right after the command's name, which is replay, sessions, limiter or actors",
+        );
+    }
+    let from = if asks_for_whole(words) { 2 } else { 0 };
+    if has_word(words, from, "--whole") {
+        return Some("\"--whole\" goes right after the command's name, which is check");
+    }
+    None
+}
+
 /// Returns in one sentence why words are no command: the word that is wrong, and the form expected there. For words
 /// that are a command it says that nothing is wrong.
 pub fn complaint(alloc: Global, words: &Vec<String>) -> Result<String, AllocError> {
@@ -107,6 +131,9 @@ pub fn complaint(alloc: Global, words: &Vec<String>) -> Result<String, AllocErro
     };
     if let Some(text) = help_complaint(alloc, words)? {
         return Ok(text);
+    }
+    if let Some(text) = misplaced(words) {
+        return String::from_str(alloc, text);
     }
     let command = asked_of(words, command.as_str());
     if !is_command(command) {

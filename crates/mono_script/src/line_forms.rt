@@ -75,6 +75,31 @@ const ACTORS: [&str; 7] = [
     "clock NANOS",
 ];
 
+// The forms of the reports in a journal.
+const REPORTS: [&str; 21] = [
+    "task TASK",
+    "queued",
+    "noted",
+    "nothing",
+    "sleep SLEEP",
+    "armed",
+    "elapsed",
+    "dropped, or dropped OUTPUT",
+    "job JOB",
+    "yes",
+    "no",
+    "ended, or ended TASK",
+    "pending",
+    "ready, or ready OUTPUT",
+    "canceled",
+    "refused idle, no-task, no-timer, no-handle, taken, at-capacity, invalid, no-pool or ended",
+    "turn TASK; REPLY; idle, with a reply for each step, and idle, again, done or gone at its end",
+    "fired, or fired SLEEP .., with a blank before each sleep",
+    "listed",
+    "unlisted",
+    "drained, or drained TASK .., with a blank before each task",
+];
+
 // Returns whether the form begins with this word.
 fn begins_with(form: &str, head: &[u8]) -> bool {
     match form.split([' ', ',', ';']).next() {
@@ -115,4 +140,9 @@ pub(crate) fn form_of(command: &str, head: &[u8]) -> Option<&'static str> {
         "actors" => find(ACTORS.as_slice(), head),
         _ => None,
     }
+}
+
+/// Returns the form of a report that begins with this word, if there is one.
+pub(crate) fn report_form(head: &[u8]) -> Option<&'static str> {
+    find(REPORTS.as_slice(), head)
 }

@@ -11,7 +11,7 @@ use Rattle.std.proofs.lemmas.List.Splits.{slice_split_first, slice_split_none}
 use Rattle.std.proofs.lemmas.Grind.{get_or_default_zero}
 use Rattle.mono_text.specs.Lines.{lines, onto_first}
 use Rattle.mono_text.specs.Words.{is_gap, words, is_number, is_above}
-use Rattle.mono_text.specs.Reasons.{ends_in_return}
+use Rattle.mono_text.specs.Gaps.{is_blank, pieces, ends_in}
 
 -- the bytes after place i, up to the end
 pub all_behind : (xs : List ℕ) (i : ℕ) → take (length xs - (i + 1)) (drop (i + 1) xs) ≡ drop (i + 1) xs
@@ -25,6 +25,15 @@ word_ends xs i less none here =
 
 pub one_word : (xs : List ℕ) → ((k : ℕ) → k < length xs → is_gap (get_or xs k 0) ≡ false) → words xs ≡ xs ∷ []
 one_word xs none = slice_split_none is_gap xs (λ k d less. ap is_gap (get_or_default_zero xs k d less) ∙ none k less)
+
+pub piece_ends : (xs : List ℕ) (i : ℕ) → i < length xs → ((k : ℕ) → k < i → is_blank (get_or xs k 0) ≡ false) → is_blank (get_or xs i 0) ≡ true → pieces xs ≡ take i xs ∷ pieces (drop (i + 1) xs)
+piece_ends xs i less none here =
+    let at : position_or_len is_blank xs ≡ i = position_or_len_is is_blank xs i 0 (omega (arith, less)) none (λ _. here) in
+    let first = slice_split_first is_blank xs 0 (subst (λ n. n < length xs) (sym at) less) in
+    subst (λ n. slice_split is_blank xs ≡ take n xs ∷ slice_split is_blank (drop (n + 1) xs)) at first
+
+pub one_piece : (xs : List ℕ) → ((k : ℕ) → k < length xs → is_blank (get_or xs k 0) ≡ false) → pieces xs ≡ xs ∷ []
+one_piece xs none = slice_split_none is_blank xs (λ k d less. ap is_blank (get_or_default_zero xs k d less) ∙ none k less)
 
 first_feed : (b : ℕ) (bs : List ℕ) → (b == 10) ≡ true → lines (b ∷ bs) ≡ record { bytes = []; is_ended = true } ∷ lines bs
 first_feed b bs is = ap (λ t. cond t (record { bytes = []; is_ended = true } ∷ lines bs) (onto_first b (lines bs))) is
@@ -53,10 +62,10 @@ pub only_line : (xs : List ℕ) → 0 < length xs → ((k : ℕ) → k < length 
 only_line [] some none = absurd (omega (arith, some))
 only_line (b ∷ bs) some none = one_line b bs none
 
-pub last_byte : (xs : List ℕ) (b : ℕ) → ends_in_return (xs ++ b ∷ []) ≡ (b == 13)
-last_byte [] b = refl
-last_byte (x ∷ []) b = refl
-last_byte (x ∷ (y ∷ ys)) b = last_byte (y ∷ ys) b
+pub last_byte : (byte : ℕ) (xs : List ℕ) (b : ℕ) → ends_in byte (xs ++ b ∷ []) ≡ (b == byte)
+last_byte byte [] b = refl
+last_byte byte (x ∷ []) b = refl
+last_byte byte (x ∷ (y ∷ ys)) b = last_byte byte (y ∷ ys) b
 
 by_length : (top word : List ℕ) (n : Bool) (l : Bool) (e : Bool) → n ≡ true → l ≡ false → e ≡ true
     → cond n (cond l true (cond e (is_lt (slice_cmp nat_cmp top word)) false)) false ≡ is_lt (slice_cmp nat_cmp top word)

@@ -6,6 +6,9 @@ pub mod Memory
 pub mod Services
 pub mod Follows
 pub mod Words
+pub mod Wrongs
+pub mod Gaps
+pub mod Forms
 pub mod Reasons
 pub mod Scripts
 pub mod ReasonTexts

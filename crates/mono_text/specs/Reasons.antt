@@ -1,29 +1,25 @@
 -- Why a line spells no call, by its bytes alone.
-use Rattle.std.specs.Prelude.{ℕ, ◌==◌, ◌||◌, ◌&&◌, Bool, true, false, if◌then◌else◌, List, [], ◌∷◌, Option, Some, None, codes}
+use Rattle.std.specs.Prelude.{ℕ, ◌==◌, ◌||◌, ◌&&◌, Bool, true, false, if◌then◌else◌, nat_lt, List, [], ◌∷◌, Option, Some, None, codes}
 use Rattle.mono_text.specs.Lines.{Line, lines}
 use Rattle.mono_text.specs.Memory.{counted}
-use Rattle.mono_text.specs.Words.{words, first_of, is_text, is_plain, is_among, is_above, line_at}
+use Rattle.mono_text.specs.Words.{words, first_of, is_text, is_plain, is_among, is_above, is_arrow, is_stuck, line_at}
+use Rattle.mono_text.specs.Wrongs.{Wrong, wrong_of, whole, or_rest, or_next, or_else}
+use Rattle.mono_text.specs.Gaps.{gaps_wrong, begins_with_blank, ends_in}
+use Rattle.mono_text.specs.Forms.{Forms, begins_form, count_from, has_form, most_words, forms_of}
 use Rattle.mono_text.specs.declared.reasons.Reason.{Reason}
-use Rattle.mono_text.specs.declared.reasons.Reason.TheVariants.{NoLineFeed, CarriageReturn, UnknownWord, UnknownPart, NoGap, OtherHow, NoNumber, GreatNumber, GreatNanos, OtherPart, NoReport, OtherReport, NeedlessReport, OtherForm}
+use Rattle.mono_text.specs.declared.reasons.Reason.TheVariants.{NoLineFeed, CarriageReturn, StrayBlank, StuckArrow, PartOutside, UnknownWord, UnknownPart, LineInTurn, NoGap, OtherHow, WordTooMany, NoNumber, GreatNumber, GreatNanos, NoWord, NoEnd, BehindEnd, NoReport, UnknownReport, OtherReport, NeedlessReport, OtherForm}
 
--- the reason, the word that it is about, and the word whose form that word breaks
-pub record Wrong : Type 0 where
-  pub reason : Reason
-  pub word : List ℕ
-  pub head : List ℕ
+-- ---- the first word
 
-abbrev pub wrong_of : Reason → List ℕ → List ℕ → Wrong
-wrong_of reason word head = record { reason = reason; word = word; head = head }
+-- The reason if the first word begins no line: `->` sticks to it, it begins a part of a turn, a blank precedes it.
+abbrev pub first_reason : Forms → List ℕ → List ℕ → Reason
+first_reason forms first bytes =
+    if is_stuck first then StuckArrow
+    else if begins_form forms.parts first then PartOutside
+    else if begins_with_blank bytes then StrayBlank
+    else UnknownWord
 
--- the fault of a whole line
-abbrev pub whole : Reason → List ℕ → Wrong
-whole reason bytes = wrong_of reason (first_of (words bytes)) (first_of (words bytes))
-
--- the last byte is a carriage return
-abbrev pub ends_in_return : List ℕ → Bool
-ends_in_return [] = false
-ends_in_return (b ∷ []) = b == 13
-ends_in_return (b ∷ (c ∷ bs)) = ends_in_return (c ∷ bs)
+-- ---- a later word
 
 abbrev pub greatest_number : List ℕ
 greatest_number = codes "18446744073709551615"
@@ -31,142 +27,174 @@ greatest_number = codes "18446744073709551615"
 abbrev pub greatest_nanos : List ℕ
 greatest_nanos = codes "340282366920938463463374607431768211455"
 
--- Nanoseconds follow `sleep` and `clock`, and the number after `reset`.
+-- Nanoseconds follow `sleep`, `clock` and `now`, and the number after `reset`.
 abbrev pub is_for_nanos : List ℕ → List ℕ → Bool
-is_for_nanos older previous = is_text previous (codes "sleep") || is_text previous (codes "clock") || is_text older (codes "reset")
+is_for_nanos older previous = is_text previous (codes "sleep") || is_text previous (codes "clock") || is_text previous (codes "now") || is_text older (codes "reset")
 
 -- the reason if the word is a number that is too great for its place
 abbrev pub too_great : Bool → List ℕ → Option Reason
 too_great true word = if is_above greatest_nanos word then Some GreatNanos else None
 too_great false word = if is_above greatest_number word then Some GreatNumber else None
 
+-- the word at the place of a number
+abbrev pub number_wrong : Bool → List ℕ → Option Reason
+number_wrong is_for_nanos word = if is_plain word then too_great is_for_nanos word else Some NoNumber
+
 -- the word for how a job ended
 abbrev pub how_wrong : List ℕ → Option Reason
 how_wrong word = if is_text word (codes "ran") || is_text word (codes "canceled") then None else Some OtherHow
 
--- A word after an empty one begins a part of a turn.
-abbrev pub begins_wrong : List (List ℕ) → List ℕ → Option Reason
-begins_wrong parts word = if is_plain word || is_among word parts then None else Some UnknownPart
+-- The word after `; ` begins a part of a turn.
+abbrev pub begins_wrong : Forms → List ℕ → Option Reason
+begins_wrong forms word =
+    if begins_form forms.parts word then None
+    else if begins_form forms.lines word then Some LineInTurn
+    else Some UnknownPart
 
 -- No empty word precedes the word, and it begins a part: it follows `turn`, or it is in a turn and among `parts`.
 abbrev pub lacks_gap : List (List ℕ) → List ℕ → List ℕ → List ℕ → Bool
-lacks_gap parts first previous word = is_text previous (codes "turn") || (is_text first (codes "turn") && is_among word parts)
+lacks_gap parts first previous word =
+    if is_plain word then false
+    else is_text previous (codes "turn") || (is_text first (codes "turn") && is_among word parts)
 
--- the place of a number has another word
-abbrev pub number_lacks : List (List ℕ) → List ℕ → List ℕ → List ℕ → Option Reason
-number_lacks parts first previous word =
-    if is_plain word then None
-    else if lacks_gap parts first previous word then Some NoGap
-    else Some NoNumber
+-- How a job ended follows the job's number. Each other word is a number, and the forms of the part's first word have it.
+abbrev pub stands_wrong : Forms → List ℕ → List ℕ → ℕ → List ℕ → List ℕ → List ℕ → Option Reason
+stands_wrong forms first head place older previous word =
+    if is_text older (codes "job-end") then how_wrong word
+    else if lacks_gap forms.parts first previous word then Some NoGap
+    else if nat_lt (most_words 0 (forms_of forms first head) head) place then Some WordTooMany
+    else number_wrong (is_for_nanos older previous) word
 
--- How a job ended follows the job's number; each other word is a plain number.
-abbrev pub stands_wrong : List (List ℕ) → List ℕ → List ℕ → List ℕ → List ℕ → Option Reason
-stands_wrong parts first older previous word = if is_text older (codes "job-end") then how_wrong word else number_lacks parts first previous word
+-- the fault of an empty word
+abbrev pub empty_wrong : List ℕ → Option Reason
+empty_wrong previous = if is_text previous [] then Some UnknownPart else None
 
--- the fault of a word that is no number or not too great, by the line's first word and the two words before it
-abbrev pub other_wrong : List (List ℕ) → List ℕ → List ℕ → List ℕ → List ℕ → Option Reason
-other_wrong parts first older previous word =
-    if is_text word [] then None
-    else if is_text previous [] then begins_wrong parts word
-    else stands_wrong parts first older previous word
-
-abbrev pub or_later : Option Reason → Option Reason → Option Reason
-or_later None later = later
-or_later (Some r) later = Some r
-
-abbrev pub word_wrong : List (List ℕ) → List ℕ → List ℕ → List ℕ → List ℕ → Option Reason
-word_wrong parts first older previous word = or_later (too_great (is_for_nanos older previous) word) (other_wrong parts first older previous word)
+-- the fault of a word by the line's first word, the first word of its part, its place after that one, and the two words
+-- before it
+abbrev pub word_wrong : Forms → List ℕ → List ℕ → ℕ → List ℕ → List ℕ → List ℕ → Option Reason
+word_wrong forms first head place older previous word =
+    if is_text word [] then empty_wrong previous
+    else if is_stuck word then Some StuckArrow
+    else if is_text previous [] then begins_wrong forms word
+    else stands_wrong forms first head place older previous word
 
 -- A word after an empty one is the head of those after it.
 abbrev pub head_of : List ℕ → List ℕ → List ℕ → List ℕ
 head_of head previous word = if is_text previous [] then word else head
 
-abbrev pub or_rest : Option Reason → List ℕ → List ℕ → Option Wrong → Option Wrong
-or_rest None word head later = later
-or_rest (Some r) word head later = Some (wrong_of r word head)
+abbrev pub place_of : ℕ → List ℕ → ℕ
+place_of place previous = if is_text previous [] then 0 else counted place
 
--- A report follows this word.
-abbrev pub is_arrow : List ℕ → Bool
-is_arrow word = is_text word (codes "->")
-
--- the first word before a report that is wrong, each by the line's first word and the two words before it
-abbrev pub first_wrong : List (List ℕ) → List ℕ → List ℕ → List ℕ → List ℕ → List (List ℕ) → Option Wrong
-first_wrong parts first head older previous [] = None
-first_wrong parts first head older previous (word ∷ rest) =
+-- the first word before a report that is wrong
+abbrev pub first_wrong : Forms → List ℕ → List ℕ → ℕ → List ℕ → List ℕ → List (List ℕ) → Option Wrong
+first_wrong forms first head place older previous [] = None
+first_wrong forms first head place older previous (word ∷ rest) =
     if is_arrow word then None
-    else or_rest (word_wrong parts first older previous word) word (head_of head previous word) (first_wrong parts first (head_of head previous word) previous word rest)
+    else or_rest (word_wrong forms first (head_of head previous word) (place_of place previous) older previous word) word (head_of head previous word)
+    (first_wrong forms first (head_of head previous word) (place_of place previous) previous word rest)
 
 -- the first wrong word after the line's first word
-abbrev pub wrong_among : List (List ℕ) → List (List ℕ) → Option Wrong
-wrong_among parts [] = None
-wrong_among parts (first ∷ rest) = first_wrong parts first first [] first rest
+abbrev pub wrong_among : Forms → List (List ℕ) → Option Wrong
+wrong_among forms [] = None
+wrong_among forms (first ∷ rest) = first_wrong forms first first 0 [] first rest
 
--- A part ends before an empty word or a report.
-abbrev pub ends_part : List ℕ → Bool
-ends_part word = is_text word [] || is_arrow word
+-- ---- what is missing
 
--- how many words are left of a part, in addition to those that were counted
-abbrev pub count_from : ℕ → List (List ℕ) → ℕ
-count_from count [] = count
-count_from count (word ∷ rest) = if ends_part word then count else count_from (counted count) rest
-
--- A form begins with this word and has so many after it.
-abbrev pub has_form : List (List ℕ) → List ℕ → ℕ → Bool
-has_form [] word count = false
-has_form (name ∷ rest) word count = if is_text word name && (count_from 0 rest == count) then true else has_form rest word count
-
--- The word and those after it are a part in a form, or the word begins none.
-abbrev pub fits_form : List (List ℕ) → List ℕ → List (List ℕ) → Bool
-fits_form parts word rest = is_text word [] || is_plain word || has_form parts word (count_from 0 rest)
-
--- the fault of a part with a known first word; a word after an empty one begins a part
+-- A word after an empty one begins a part, which lacks a word if it is in no form.
 abbrev pub part_wrong : List (List ℕ) → List ℕ → List ℕ → List (List ℕ) → Option Reason
-part_wrong parts previous word rest = if is_text previous [] then (if fits_form parts word rest then None else Some OtherPart) else None
+part_wrong parts previous word rest =
+    if is_text previous [] then (if has_form parts word (count_from 0 rest) then None else Some NoWord) else None
 
--- the first part before a report that has not as many words as its form
+-- the first part before a report that lacks a word
 abbrev pub first_wrong_part : List (List ℕ) → List ℕ → List (List ℕ) → Option Wrong
 first_wrong_part parts previous [] = None
 first_wrong_part parts previous (word ∷ rest) =
     if is_arrow word then None
     else or_rest (part_wrong parts previous word rest) word word (first_wrong_part parts word rest)
 
--- the first wrong part of a turn
-abbrev pub wrong_part : List (List ℕ) → List (List ℕ) → Option Wrong
-wrong_part parts [] = None
-wrong_part parts (first ∷ rest) = if is_text first (codes "turn") then first_wrong_part parts first rest else None
+abbrev pub turn_fault : Reason → List ℕ → Wrong
+turn_fault reason word = wrong_of reason word (codes "turn")
 
-abbrev pub or_else : Option Wrong → Wrong → Wrong
-or_else None w = w
-or_else (Some v) w = v
+-- The turn's words are over: it has an end, and no semicolon follows it.
+abbrev pub end_wrong : Bool → List ℕ → Option Wrong
+end_wrong has_end previous =
+    if has_end
+    then (if is_text previous [] then Some (turn_fault BehindEnd []) else None)
+    else Some (turn_fault NoEnd (codes "turn"))
 
--- the reason of a line whose words and parts are all right: whether it has a report, and whether it is one of those that
--- have one
-abbrev pub form_wrong : Bool → Bool → Reason
-form_wrong true true = OtherReport
-form_wrong true false = NeedlessReport
-form_wrong false true = NoReport
-form_wrong false false = OtherForm
+-- whether a turn has an end after this word
+abbrev pub ends_with : List (List ℕ) → Bool → List ℕ → List ℕ → Bool
+ends_with ends has_end previous word = if is_text previous [] then is_among word ends else has_end
 
-abbrev pub form_fault : List (List ℕ) → List ℕ → Wrong
-form_fault pairs bytes = whole (form_wrong (is_among (codes "->") (words bytes)) (is_among (first_of (words bytes)) pairs)) bytes
+-- A turn has one end, and it is the last of its parts.
+abbrev pub ends_from : List (List ℕ) → Bool → List ℕ → List (List ℕ) → Option Wrong
+ends_from ends has_end previous [] = end_wrong has_end previous
+ends_from ends has_end previous (word ∷ rest) =
+    if is_arrow word then end_wrong has_end previous
+    else if has_end && is_text previous [] then Some (turn_fault BehindEnd word)
+    else ends_from ends (ends_with ends has_end previous word) word rest
 
--- The first of these faults. No line feed ends the line; a carriage return precedes it; its first word is none of those
--- with which a call begins. A later word is wrong; a part of a turn is in no form of its word; its report is wrong or
--- missing; it is in no form of its first word. `parts` has a form for each step of a turn, with an empty word between
--- two forms, and a line with a word of `pairs` has a report.
-abbrev pub wrong_line : List (List ℕ) → List (List ℕ) → List (List ℕ) → Line → Wrong
-wrong_line names parts pairs line =
+-- what a turn lacks
+abbrev pub turn_wrong : Forms → List ℕ → List (List ℕ) → Option Wrong
+turn_wrong forms first rest =
+    if is_text first (codes "turn")
+    then or_next (first_wrong_part forms.parts first rest) (ends_from forms.ends false first rest)
+    else None
+
+-- what a line lacks whose words are all right
+abbrev pub lacks_from : Forms → List ℕ → List (List ℕ) → Option Wrong
+lacks_from forms first rest =
+    if has_form forms.lines first (count_from 0 rest) then turn_wrong forms first rest else Some (wrong_of NoWord first first)
+
+abbrev pub lacks : Forms → List (List ℕ) → Option Wrong
+lacks forms [] = None
+lacks forms (first ∷ rest) = lacks_from forms first rest
+
+-- ---- the report
+
+-- the first word of a line's report, if the line has one
+abbrev pub report_word : List (List ℕ) → Option (List ℕ)
+report_word [] = None
+report_word (word ∷ rest) = if is_arrow word then Some (first_of rest) else report_word rest
+
+-- the reason of a report, by its first word
+abbrev pub report_wrong : List (List ℕ) → List ℕ → Wrong
+report_wrong reports word = if is_among word reports then wrong_of OtherReport word word else wrong_of UnknownReport word word
+
+-- the fault of a line that lacks nothing before its report, by whether it takes one
+abbrev pub form_wrong : List (List ℕ) → Bool → List ℕ → Option (List ℕ) → Wrong
+form_wrong reports true first None = wrong_of NoReport first first
+form_wrong reports false first None = wrong_of OtherForm first first
+form_wrong reports true first (Some word) = report_wrong reports word
+form_wrong reports false first (Some word) = wrong_of NeedlessReport first first
+
+abbrev pub form_fault : Forms → List ℕ → Option (List ℕ) → Wrong
+form_fault forms first report = form_wrong forms.reports (is_among first forms.pairs) first report
+
+-- ---- a line
+
+-- the fault of a line whose words are all right: something is missing, or its report is wrong or missing
+abbrev pub shape_fault : Forms → List ℕ → Wrong
+shape_fault forms bytes = or_else (lacks forms (words bytes)) (form_fault forms (first_of (words bytes)) (report_word (words bytes)))
+
+-- The fault of a line whose first word begins a form: a gap is wrong; a later word is wrong; or its shape.
+abbrev pub words_fault : Forms → List ℕ → Wrong
+words_fault forms bytes = or_else (gaps_wrong bytes) (or_else (wrong_among forms (words bytes)) (shape_fault forms bytes))
+
+-- The first of these faults: no line feed ends the line; a carriage return precedes it; its first word begins no line; a
+-- fault of its other words.
+abbrev pub wrong_line : Forms → Line → Wrong
+wrong_line forms line =
     if line.is_ended
-    then (if ends_in_return line.bytes then whole CarriageReturn line.bytes
-    else if is_among (first_of (words line.bytes)) names
-    then or_else (wrong_among parts (words line.bytes)) (or_else (wrong_part parts (words line.bytes)) (form_fault pairs line.bytes))
-    else whole UnknownWord line.bytes)
+    then (if ends_in 13 line.bytes then whole CarriageReturn line.bytes
+    else if begins_form forms.lines (first_of (words line.bytes)) then words_fault forms line.bytes
+    else whole (first_reason forms (first_of (words line.bytes)) line.bytes) line.bytes)
     else whole NoLineFeed line.bytes
 
-abbrev pub wrong_in : List (List ℕ) → List (List ℕ) → List (List ℕ) → Option Line → Option Wrong
-wrong_in names parts pairs None = None
-wrong_in names parts pairs (Some line) = Some (wrong_line names parts pairs line)
+abbrev pub wrong_in : Forms → Option Line → Option Wrong
+wrong_in forms None = None
+wrong_in forms (Some line) = Some (wrong_line forms line)
 
 -- the fault of line n, counted from 1, of the input
-abbrev pub wrong_at : List (List ℕ) → List (List ℕ) → List (List ℕ) → List ℕ → ℕ → Option Wrong
-wrong_at names parts pairs input n = wrong_in names parts pairs (line_at n (lines input))
+abbrev pub wrong_at : Forms → List ℕ → ℕ → Option Wrong
+wrong_at forms input n = wrong_in forms (line_at n (lines input))

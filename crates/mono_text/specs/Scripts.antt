@@ -3,10 +3,13 @@ use Rattle.std.specs.Prelude.{ℕ, ◌==◌, ◌-◌, ◌||◌, ◌&&◌, Bool, 
 use Rattle.mono_text.specs.Lines.{Line, lines}
 use Rattle.mono_text.specs.Memory.{counted}
 use Rattle.mono_text.specs.Words.{words, first_of, is_text, is_among, number_of, line_at}
-use Rattle.mono_text.specs.Reasons.{Wrong, wrong_of, whole, wrong_among, ends_in_return, or_else}
+use Rattle.mono_text.specs.Wrongs.{Wrong, wrong_of, whole, or_else}
+use Rattle.mono_text.specs.Gaps.{gaps_wrong, ends_in}
+use Rattle.mono_text.specs.Forms.{Forms, begins_form}
+use Rattle.mono_text.specs.Reasons.{first_reason, wrong_among, lacks}
 use Rattle.mono_text.specs.declared.scripts.Seen.{Seen}
 use Rattle.mono_text.specs.declared.reasons.Reason.{Reason}
-use Rattle.mono_text.specs.declared.reasons.Reason.TheVariants.{NoLineFeed, CarriageReturn, UnknownWord, OtherForm, EndsEarly, NoLimits, NoTask, NoDone, ManyKinds, LongBody, NoKind, NoOwnTask, NoOwnJob, HandleGone}
+use Rattle.mono_text.specs.declared.reasons.Reason.TheVariants.{NoLineFeed, CarriageReturn, NeedlessReport, OtherForm, EndsEarly, NoLimits, LateLimits, NoTask, NoDone, ManyKinds, LongBody, NoKind, NoOwnTask, NoOwnJob, HandleGone}
 
 abbrev pub seen_of : Bool → ℕ → ℕ → ℕ → ℕ → Seen
 seen_of is_open kinds body tasks jobs = record { is_open = is_open; kinds = kinds; body = body; tasks = tasks; jobs = jobs }
@@ -33,12 +36,13 @@ abbrev pub kinds_from : ℕ → List Line → ℕ
 kinds_from count [] = count
 kinds_from count (l ∷ ls) = kinds_from (kinds_with count l) ls
 
--- A kind's line may come only in a kind, `task` only outside, and `limits` only first.
+-- `limits` may come only first, a kind's line only in a kind, and `task` only outside.
 abbrev pub place_wrong : ℕ → Seen → List ℕ → Option Reason
 place_wrong n seen word =
     if n == 1 then (if is_text word (codes "limits") then None else Some NoLimits)
+    else if is_text word (codes "limits") then Some LateLimits
     else if seen.is_open
-    then (if is_text word (codes "task") || is_text word (codes "limits") then Some NoDone
+    then (if is_text word (codes "task") then Some NoDone
     else if is_text word (codes "done") then None
     else if nat_lt 126 seen.body then Some LongBody else None)
     else if is_text word (codes "task") then (if nat_lt 63 seen.kinds then Some ManyKinds else None)
@@ -62,23 +66,35 @@ own_wrong kinds seen (word ∷ []) = wrong_of OtherForm word word
 own_wrong kinds seen (word ∷ (number ∷ [])) = wrong_of (any_number_wrong kinds seen word (number_of number)) number word
 own_wrong kinds seen (word ∷ (number ∷ (more ∷ rest))) = wrong_of OtherForm more word
 
-abbrev pub words_wrong : ℕ → Seen → List ℕ → Wrong
-words_wrong kinds seen bytes = or_else (wrong_among (words []) (words bytes)) (own_wrong kinds seen (words bytes))
+-- the forms of a script's lines
+abbrev pub script_forms : List (List ℕ) → Forms
+script_forms lines = record { lines = lines; parts = words []; ends = words []; pairs = words []; reports = words [] }
+
+-- No line of a script has a report.
+abbrev pub report_or_own : ℕ → Seen → List ℕ → Wrong
+report_or_own kinds seen bytes = if is_among (codes "->") (words bytes) then whole NeedlessReport bytes else own_wrong kinds seen (words bytes)
+
+abbrev pub words_or_own : List (List ℕ) → ℕ → Seen → List ℕ → Wrong
+words_or_own names kinds seen bytes =
+    or_else (wrong_among (script_forms names) (words bytes)) (or_else (lacks (script_forms names) (words bytes)) (report_or_own kinds seen bytes))
+
+abbrev pub words_wrong : List (List ℕ) → ℕ → Seen → List ℕ → Wrong
+words_wrong names kinds seen bytes = or_else (gaps_wrong bytes) (words_or_own names kinds seen bytes)
 
 abbrev pub or_words : Option Reason → List ℕ → Wrong → Wrong
 or_words None bytes later = later
 or_words (Some r) bytes later = whole r bytes
 
--- The first of these faults. No line feed ends the line; a carriage return precedes it; its first word is none of a
--- script's; it may not follow here. A later word is wrong; it names no kind, no own task or no own job, or a handle
--- that was used. It is in no form of its word.
+-- The first of these faults. No line feed ends the line; a carriage return precedes it; its first word begins none of a
+-- script's lines; it may not follow here. A gap or a later word is wrong, or one is missing; a report follows. It names no
+-- kind, no own task or no own job, or a handle that was used.
 abbrev pub script_line_wrong : List (List ℕ) → ℕ → ℕ → Seen → Line → Wrong
 script_line_wrong names n kinds seen line =
     if line.is_ended
-    then (if ends_in_return line.bytes then whole CarriageReturn line.bytes
-    else if n == 1 || is_among (first_of (words line.bytes)) names
-    then or_words (place_wrong n seen (first_of (words line.bytes))) line.bytes (words_wrong kinds seen line.bytes)
-    else whole UnknownWord line.bytes)
+    then (if ends_in 13 line.bytes then whole CarriageReturn line.bytes
+    else if n == 1 || begins_form names (first_of (words line.bytes))
+    then or_words (place_wrong n seen (first_of (words line.bytes))) line.bytes (words_wrong names kinds seen line.bytes)
+    else whole (first_reason (script_forms names) (first_of (words line.bytes)) line.bytes) line.bytes)
     else whole NoLineFeed line.bytes
 
 abbrev pub script_wrong_in : List (List ℕ) → ℕ → ℕ → Seen → Option Line → Wrong

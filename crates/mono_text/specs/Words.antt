@@ -1,5 +1,5 @@
 -- The words of a line, and numbers among them.
-use Rattle.std.specs.Prelude.{ℕ, ◌==◌, ◌-◌, ◌||◌, Bool, true, false, if◌then◌else◌, nat_lt, List, [], ◌∷◌, length, Option, Some, None, codes}
+use Rattle.std.specs.Prelude.{ℕ, ◌==◌, ◌-◌, ◌||◌, ◌&&◌, Bool, true, false, if◌then◌else◌, nat_lt, List, [], ◌∷◌, length, Option, Some, None, codes}
 use Rattle.std.specs.Char.{is_ascii_digit}
 use Rattle.std.specs.Ordering.{nat_cmp}
 use Rattle.std.specs.Bool.{nat_eq}
@@ -44,6 +44,19 @@ is_above top word =
     if is_number word
     then (if nat_lt (length top) (length word) then true else if length word == length top then is_lt (slice_cmp nat_cmp top word) else false)
     else false
+
+-- `->` is in the bytes, or their first byte ends it
+abbrev pub arrow_behind : ℕ → List ℕ → Bool
+arrow_behind previous [] = false
+arrow_behind previous (b ∷ bs) = if (previous == 45) && (b == 62) then true else arrow_behind b bs
+
+-- A report follows this word.
+abbrev pub is_arrow : List ℕ → Bool
+is_arrow word = is_text word (codes "->")
+
+-- `->` sticks to other bytes of the word
+abbrev pub is_stuck : List ℕ → Bool
+is_stuck word = if is_arrow word then false else arrow_behind 0 word
 
 abbrev pub first_of : List (List ℕ) → List ℕ
 first_of [] = []

@@ -3,6 +3,8 @@
 
 mod events;
 mod followers;
+mod forms;
+mod gaps;
 pub mod laws;
 mod lines;
 mod memory;
@@ -26,7 +28,7 @@ pub use printer::{
     front_and_number, put_front, put_list, put_number, put_pair, put_word, report_line,
 };
 pub use reader::{Reader, whole_number};
-pub use reasons::{Fault, Reason, fault_of_line};
+pub use reasons::{Fault, LineForms, Reason, fault_of_line};
 pub use scripts::fault_of_script;
 pub use services::{Served, Service, serve};
 pub use sink::{Sink, SinkFault, write_all};

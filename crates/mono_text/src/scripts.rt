@@ -4,11 +4,13 @@ ghost use Rattle.mono_text.specs.Lines.{lines};
 ghost use Rattle.mono_text.specs.Memory.{counted};
 ghost use Rattle.mono_text.specs.Words.{words, number_of};
 ghost use Rattle.mono_text.specs.Scripts as spec;
-ghost use Rattle.mono_text.specs.ReasonTexts.{told};
+ghost use Rattle.mono_text.specs.ReasonTexts.{told, told_forms};
 
 use crate::Reader;
+use crate::forms::begins_form;
+use crate::gaps::{ends_in, gaps_wrong};
 use crate::lines::{cut_line, line_at};
-use crate::reasons::{Fault, Reason, ends_in_return, whole, wrong_among};
+use crate::reasons::{Fault, LineForms, Reason, first_reason, lacks, whole, wrong_among};
 use crate::words::{cut, is_among};
 
 /// The effect of the lines before one: whether a kind is open, and how many kinds there are. For the last kind: how
@@ -145,8 +147,11 @@ fn place_wrong(n: usize, seen: Seen, word: &[u8]) -> Option<Reason>
         }
         return Some(Reason::NoLimits);
     }
+    if word == b"limits".as_slice() {
+        return Some(Reason::LateLimits);
+    }
     if seen.is_open {
-        if word == b"task".as_slice() || word == b"limits".as_slice() {
+        if word == b"task".as_slice() {
             return Some(Reason::NoDone);
         }
         if word == b"done".as_slice() {
@@ -248,13 +253,50 @@ fn own_wrong<'a>(kinds: u64, seen: Seen, line: &'a [u8]) -> Fault<'a>
     }
 }
 
-// Returns the fault of a line that may follow here.
-fn words_wrong<'a>(kinds: u64, seen: Seen, line: &'a [u8]) -> Fault<'a>
-    ensures { told result ≡ spec.words_wrong kinds seen line.now }
+// Returns the forms of a script's lines, of which none has parts or a report.
+fn script_forms<'a>(lines: &'a [u8]) -> LineForms<'a>
+    ensures { told_forms result ≡ spec.script_forms (words lines.now) }
 {
-    match wrong_among(b"", line) {
+    LineForms {
+        lines,
+        parts: b"",
+        ends: b"",
+        pairs: b"",
+        reports: b"",
+    }
+}
+
+// Returns the fault of a line that may follow here, and that lacks no word.
+fn report_or_own<'a>(kinds: u64, seen: Seen, line: &'a [u8]) -> Fault<'a>
+    ensures { told result ≡ spec.report_or_own kinds seen line.now }
+{
+    if is_among(b"->", line) {
+        whole(Reason::NeedlessReport, line)
+    } else {
+        own_wrong(kinds, seen, line)
+    }
+}
+
+// Returns the fault of a line that may follow here, and whose gaps are right.
+fn words_or_own<'a>(names: &[u8], kinds: u64, seen: Seen, line: &'a [u8]) -> Fault<'a>
+    ensures { told result ≡ spec.words_or_own (words names.now) kinds seen line.now }
+{
+    if let Some(fault) = wrong_among(&script_forms(names), line) {
+        return fault;
+    }
+    match lacks(&script_forms(names), line) {
         Some(fault) => fault,
-        None => own_wrong(kinds, seen, line),
+        None => report_or_own(kinds, seen, line),
+    }
+}
+
+// Returns the fault of a line that may follow here.
+fn words_wrong<'a>(names: &[u8], kinds: u64, seen: Seen, line: &'a [u8]) -> Fault<'a>
+    ensures { told result ≡ spec.words_wrong (words names.now) kinds seen line.now }
+{
+    match gaps_wrong(line) {
+        Some(fault) => fault,
+        None => words_or_own(names, kinds, seen, line),
     }
 }
 
@@ -272,23 +314,23 @@ fn script_line_wrong<'a>(
     if !is_ended {
         return whole(Reason::NoLineFeed, line);
     }
-    if ends_in_return(line) {
+    if ends_in(b'\r', line) {
         return whole(Reason::CarriageReturn, line);
     }
     let first = cut(line).0;
-    if n != 1 && !is_among(first, names) {
-        return whole(Reason::UnknownWord, line);
+    if n != 1 && !begins_form(names, first) {
+        return whole(first_reason(&script_forms(names), first, line), line);
     }
     match place_wrong(n, seen, first) {
         Some(reason) => whole(reason, line),
-        None => words_wrong(kinds, seen, line),
+        None => words_wrong(names, kinds, seen, line),
     }
 }
 
 /// Returns the fault of line n of a script, counted from 1, or that the script ends before it.
 ///
-/// Its lines begin with one of `names`, a text of words with blanks between them. The answer depends on the bytes of
-/// the script alone.
+/// Its lines are in one of these forms, as [`LineForms::lines`] has them. The answer depends on the bytes of the script
+/// alone.
 pub fn fault_of_script<'a>(names: &[u8], input: &'a [u8], n: usize) -> Fault<'a>
     ensures { told result ≡ spec.script_wrong_at (words names.now) input.now n }
 {

@@ -84,3 +84,32 @@ pub(crate) fn is_above(top: &[u8], word: &[u8]) -> bool
     }
     word.len() == top.len() && top.cmp(word).is_lt()
 }
+
+/// Returns whether a report follows the word.
+pub(crate) fn is_arrow(word: &[u8]) -> bool
+    ensures { result ≡ spec.is_arrow word.now }
+{
+    word == b"->".as_slice()
+}
+
+fn has_arrow(word: &[u8]) -> bool
+    ensures { result ≡ spec.arrow_behind 0 word.now }
+{
+    let mut previous = 0u8;
+    let mut rest = word;
+    'bytes: while let Some((byte, more)) = rest.split_first() {
+        if previous == b'-' && *byte == b'>' {
+            return true;
+        }
+        previous = *byte;
+        rest = more;
+    }
+    false
+}
+
+/// Returns whether `->` sticks to other bytes of the word.
+pub(crate) fn is_stuck(word: &[u8]) -> bool
+    ensures { result ≡ spec.is_stuck word.now }
+{
+    !is_arrow(word) && has_arrow(word)
+}

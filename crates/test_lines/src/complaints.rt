@@ -24,7 +24,23 @@ fn says(alloc: Global, words: &Vec<String>, sentence: &str) -> bool {
 }
 
 // Words, and the complaints about them.
-const CASES: [(&str, &str); 25] = [
+const CASES: [(&str, &str); 29] = [
+    (
+        "replay attached 1 1 1 --follow",
+        "\"--follow\" goes right after the command's name, which is replay, sessions, limiter or actors",
+    ),
+    (
+        "--follow replay attached 1 1 1",
+        "\"--follow\" goes right after the command's name, which is replay, sessions, limiter or actors",
+    ),
+    (
+        "check attached 1 1 1 --whole",
+        "\"--whole\" goes right after the command's name, which is check",
+    ),
+    (
+        "replay --whole attached 1 1 1",
+        "\"--whole\" goes right after the command's name, which is check",
+    ),
     (
         "",
         "usage: monoio COMMAND WORD .. < INPUT; COMMAND is replay, run, load, sessions, limiter, actors or check; monoio --help says more",
@@ -110,7 +126,7 @@ const CASES: [(&str, &str); 25] = [
     ),
     (
         "check attached --whole 1 1 1",
-        "check: \"--whole\": TASKS is a number below 2^64",
+        "\"--whole\" goes right after the command's name, which is check",
     ),
     ("check --whole attached 1 1 1", "nothing is wrong"),
 ];

@@ -86,7 +86,7 @@ const LIMITER: Words = Words::Limiter;
 const ACTORS: Words = Words::Actors;
 
 // The words of a command, an input, and the sentence about its first bad line.
-const CASES: [(Words, &[u8], &[u8]); 60] = [
+const CASES: [(Words, &[u8], &[u8]); 81] = [
     (REPLAY, b"spawn\nspawn", b"line 2: no line feed at the end"),
     (
         REPLAY,
@@ -158,17 +158,67 @@ const CASES: [(Words, &[u8], &[u8]); 60] = [
     (
         REPLAY,
         b"wake\n",
-        b"line 1: not in the form of its first word; expected: wake TASK",
+        b"line 1: a word is missing; expected: wake TASK",
     ),
     (
         REPLAY,
         b"wake 1 2\n",
-        b"line 1: not in the form of its first word; expected: wake TASK",
+        b"line 1: \"2\" is a word too many; expected: wake TASK",
     ),
     (
         REPLAY,
         b"wake 1 \n",
-        b"line 1: not in the form of its first word; expected: wake TASK",
+        b"line 1: a blank too many after \"1\"",
+    ),
+    (
+        REPLAY,
+        b" wake 1\n",
+        b"line 1: a blank before the first word",
+    ),
+    (
+        REPLAY,
+        b"turn;  wake 1; pending\n",
+        b"line 1: a blank too many after \"turn;\"",
+    ),
+    (
+        REPLAY,
+        b"wake 1;\n",
+        b"line 1: a semicolon after \"1\", which only a turn has",
+    ),
+    (
+        REPLAY,
+        b"spawn 0\n",
+        b"line 1: \"0\" is a word too many; expected: spawn",
+    ),
+    (
+        REPLAY,
+        b"poll 0\n",
+        b"line 1: \"poll\" belongs in a turn; expected: turn; STEP; pending, or turn; STEP; ready OUTPUT, with any number of steps",
+    ),
+    (
+        REPLAY,
+        b"spawn ->task 0\n",
+        b"line 1: \" -> \" and a report stand in a journal alone, which check reads",
+    ),
+    (
+        REPLAY,
+        b"turn; wake 0\n",
+        b"line 1: the turn has no end: pending or ready OUTPUT is missing",
+    ),
+    (
+        REPLAY,
+        b"turn; wake 0; \n",
+        b"line 1: no word behind \"; \"",
+    ),
+    (
+        REPLAY,
+        b"turn; pending; wake 0\n",
+        b"line 1: \"wake\" follows the turn's end, which is pending or ready OUTPUT",
+    ),
+    (
+        REPLAY,
+        b"turn; pending;\n",
+        b"line 1: a semicolon after the turn's end",
     ),
     (
         REPLAY,
@@ -188,12 +238,12 @@ const CASES: [(Words, &[u8], &[u8]); 60] = [
     (
         REPLAY,
         b"turn; wake; pending\n",
-        b"line 1: \"wake\" is not in its form; expected: wake TASK",
+        b"line 1: a word is missing; expected: wake TASK",
     ),
     (
         REPLAY,
         b"turn; wake 0 0; pending\n",
-        b"line 1: \"wake\" is not in its form; expected: wake TASK",
+        b"line 1: \"0\" is a word too many; expected: wake TASK",
     ),
     (
         REPLAY,
@@ -203,7 +253,7 @@ const CASES: [(Words, &[u8], &[u8]); 60] = [
     (
         REPLAY,
         b"turn\n",
-        b"line 1: not in the form of its first word; expected: turn; STEP; pending, or turn; STEP; ready OUTPUT, with any number of steps",
+        b"line 1: the turn has no end: pending or ready OUTPUT is missing",
     ),
     (
         REPLAY,
@@ -213,7 +263,7 @@ const CASES: [(Words, &[u8], &[u8]); 60] = [
     (
         REPLAY,
         b"turn; clock 5; pending\n",
-        b"line 1: unknown word \"clock\" behind \"; \"",
+        b"line 1: \"clock\" does not belong in a turn; expected: clock NANOS",
     ),
     (
         REPLAY,
@@ -243,7 +293,28 @@ const CASES: [(Words, &[u8], &[u8]); 60] = [
     (
         CHECK,
         b"spawn -> tusk 0\n",
-        b"line 1: no report behind \" -> \"",
+        b"line 1: unknown word \"tusk\" behind \" -> \"",
+    ),
+    (CHECK, b"spawn ->\n", b"line 1: no report behind \" -> \""),
+    (
+        CHECK,
+        b"spawn ->task 1\n",
+        b"line 1: a blank is missing at \"->\" in \"->task\"",
+    ),
+    (
+        CHECK,
+        b"spawn-> task 1\n",
+        b"line 1: a blank is missing at \"->\" in \"spawn->\"",
+    ),
+    (
+        CHECK,
+        b"spawn -> task x\n",
+        b"line 1: the report is not in the form of its first word; expected: task TASK",
+    ),
+    (
+        CHECK,
+        b"now 340282366920938463463374607431768211456\n",
+        b"line 1: \"340282366920938463463374607431768211456\" is above 340282366920938463463374607431768211455; expected: now NANOS",
     ),
     (
         CHECK,
@@ -253,7 +324,7 @@ const CASES: [(Words, &[u8], &[u8]); 60] = [
     (
         CHECK,
         b"turn; sleep; pending -> turn 0; sleep 0; idle\n",
-        b"line 1: \"sleep\" is not in its form; expected: sleep NANOS",
+        b"line 1: a word is missing; expected: sleep NANOS",
     ),
     (
         CHECK,
@@ -329,12 +400,37 @@ const CASES: [(Words, &[u8], &[u8]); 60] = [
     (
         RUN,
         b"limits 1 1\ntask\ndone 0\n",
-        b"line 1: not in the form of its first word; expected: limits TASKS JOBS SLEEPS",
+        b"line 1: a word is missing; expected: limits TASKS JOBS SLEEPS",
+    ),
+    (
+        RUN,
+        b"limits 1 1 1\nlimits 1 1 1\n",
+        b"line 2: limits belongs in the first line alone",
+    ),
+    (
+        RUN,
+        b"limits 1 1 1\ntask\nyield 5\ndone 0\n",
+        b"line 3: \"5\" is a word too many; expected: yield",
+    ),
+    (
+        RUN,
+        b"limits 1 1 1\ntask\nyield \ndone 0\n",
+        b"line 3: a blank too many after \"yield\"",
+    ),
+    (
+        RUN,
+        b"limits 1 1 1\ntask\nyield; yield\ndone 0\n",
+        b"line 3: a semicolon after \"yield\", which no line has",
+    ),
+    (
+        RUN,
+        b"limits 1 1 1\ntask\nyield -> yes\ndone 0\n",
+        b"line 3: \" -> \" and a report stand in a journal alone, which check reads",
     ),
     (
         RUN,
         b"limits 1 1 1\ntask\nsleep 5\ndone 0\n",
-        b"line 3: unknown word \"sleep\"",
+        b"line 3: unknown word \"sleep\"; expected: limits, task, spawn, join, detach, await-sleep, block, await-job, drop-job, yield or done",
     ),
     (
         SESSIONS,
@@ -344,7 +440,7 @@ const CASES: [(Words, &[u8], &[u8]); 60] = [
     (
         SESSIONS,
         b"open 5\nacquire 0\n",
-        b"line 2: not in the form of its first word; expected: acquire SESSION KEY",
+        b"line 2: a word is missing; expected: acquire SESSION KEY",
     ),
     (
         LIMITER,
@@ -364,12 +460,17 @@ const CASES: [(Words, &[u8], &[u8]); 60] = [
     (
         ACTORS,
         b"actor\nturn; send 0; stay\n",
-        b"line 2: \"send\" is not in its form; expected: send FROM TO MESSAGE, or in a turn send TO MESSAGE",
+        b"line 2: a word is missing; expected: send FROM TO MESSAGE, or in a turn send TO MESSAGE",
+    ),
+    (
+        ACTORS,
+        b"actor\nturn; send 0 1\n",
+        b"line 2: the turn has no end: stay or stop is missing",
     ),
     (
         ACTORS,
         b"send 0 1\n",
-        b"line 1: not in the form of its first word; expected: send FROM TO MESSAGE, or in a turn send TO MESSAGE",
+        b"line 1: a word is missing; expected: send FROM TO MESSAGE, or in a turn send TO MESSAGE",
     ),
 ];
 

@@ -1,10 +1,10 @@
 use Rattle.std.proofs.Common.{◌≡◌, length}
 use Rattle.mono_text.specs.Words.{words}
-use Rattle.mono_text.specs.Reasons.{has_form}
-use Rattle.mono_text.proofs.reasons.has_form.Given as goal
+use Rattle.mono_text.specs.Forms.{has_form}
+use Rattle.mono_text.proofs.forms.has_form.Given as goal
 
 abbrev pub invariant-words : goal.invariant-words
-invariant-words l = has_form (words l.rest) l.word l.count ≡ has_form (words l.parts) l.word l.count
+invariant-words l = has_form (words l.rest) l.word l.count ≡ has_form (words l.forms) l.word l.count
 
 abbrev pub decreases-words : goal.decreases-words
 decreases-words l = length l.rest

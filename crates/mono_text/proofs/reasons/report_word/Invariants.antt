@@ -1,10 +1,10 @@
 use Rattle.std.proofs.Common.{◌≡◌, length}
 use Rattle.mono_text.specs.Words.{words}
-use Rattle.mono_text.specs.Reasons.{count_from}
-use Rattle.mono_text.proofs.reasons.words_left.Given as goal
+use Rattle.mono_text.specs.Reasons.{report_word}
+use Rattle.mono_text.proofs.reasons.report_word.Given as goal
 
 abbrev pub invariant-words : goal.invariant-words
-invariant-words l = count_from l.count (words l.rest) ≡ count_from 0 (words l.bytes)
+invariant-words l = report_word (words l.rest) ≡ report_word (words l.line)
 
 abbrev pub decreases-words : goal.decreases-words
 decreases-words l = length l.rest
