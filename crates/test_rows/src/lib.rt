@@ -1,6 +1,7 @@
 //! The top call from bytes to bytes: the promises on which a caller may rely, and tests that no plain example has.
 //! These are calls that fail, inputs that are no text or have no end, long inputs, a clock that is read, a worker
-//! that begins late, and the live tasks of a run that spent its budget.
+//! that begins late, and the live tasks of a run that spent its budget; and the whole program over memory, with its
+//! causes and its number.
 #![tactic(auto)]
 
 #[cfg(test)]
@@ -17,6 +18,8 @@ mod live_tasks;
 mod many;
 #[cfg(test)]
 mod runs;
+#[cfg(test)]
+mod whole_calls;
 
 #[cfg(test)]
 pub use caller::status_of;

@@ -15,7 +15,8 @@ pub(crate) fn split(alloc: Global, text: &str) -> Result<Vec<String>, AllocError
     Ok(words)
 }
 
-fn listed(alloc: Global, call: Option<u64>) -> Result<Vec<u64>, AllocError> {
+/// Returns a list with the number, if there is one.
+pub(crate) fn listed(alloc: Global, call: Option<u64>) -> Result<Vec<u64>, AllocError> {
     let mut calls = Vec::new(alloc);
     if let Some(call) = call {
         calls.push(call)?;

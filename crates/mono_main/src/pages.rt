@@ -1,6 +1,6 @@
 // The pages that the program shows, and their texts.
 ghost use Rattle.std.specs.Prelude.{◌≡◌, Some, IfNone, IfSome};
-ghost use Rattle.monoio.specs.Pages.{topic_name, page_text, NamesNoTopic};
+ghost use Rattle.mono_main.specs.Pages.{topic_name, page_text, NamesNoTopic};
 
 const HELP: &str = "usage:
   monoio replay STRATEGY TASKS JOBS SLEEPS

@@ -1,6 +1,6 @@
 // Which words ask for a page, and the answer to them.
 ghost use Rattle.std.specs.Prelude.{◌≡◌, ◌∷◌, ◌⊎◌, ◌↔◌, [], IfNone, IfSome, IsTrue, codes, map, string_bytes};
-ghost use Rattle.monoio.specs.Pages.{Asks, AsksNothing, IsAnsweredBy, IsHelpFlag, IsHelpWord};
+ghost use Rattle.mono_main.specs.Pages.{Asks, AsksNothing, IsAnsweredBy, IsHelpFlag, IsHelpWord};
 
 use crate::pages::{Page, text_of, topic_of};
 use mono_script::{Sink, Status, write_all};

@@ -3,11 +3,11 @@ use Rattle.std.specs.Prelude.{◌≡◌, ◌⊎◌, ℕ, List, [], ◌∷◌, Op
 use Rattle.mono_text.specs.Environment.{HasRisen, HasWritten, HasWrittenPrefix}
 use Rattle.mono_script.specs.declared.ends.Status.{Status}
 use Rattle.mono_script.specs.declared.ends.Status.TheVariants as status
-use Rattle.monoio.specs.declared.pages.TheConstants.{HELP, VERSION, REPLAY, RUN, LOAD, SESSIONS, LIMITER, ACTORS, CHECK}
-use Rattle.monoio.specs.declared.pages.Topic.{Topic}
-use Rattle.monoio.specs.declared.pages.Topic.TheVariants as topic
-use Rattle.monoio.specs.declared.pages.Page.{Page}
-use Rattle.monoio.specs.declared.pages.Page.TheVariants as page
+use Rattle.mono_main.specs.declared.pages.TheConstants.{HELP, VERSION, REPLAY, RUN, LOAD, SESSIONS, LIMITER, ACTORS, CHECK}
+use Rattle.mono_main.specs.declared.pages.Topic.{Topic}
+use Rattle.mono_main.specs.declared.pages.Topic.TheVariants as topic
+use Rattle.mono_main.specs.declared.pages.Page.{Page}
+use Rattle.mono_main.specs.declared.pages.Page.TheVariants as page
 
 -- the command's name
 abbrev pub topic_name : Topic → List ℕ
