@@ -5,12 +5,14 @@ use Rattle.std.proofs.lemmas.List.{length-set, length-map, length-append, map-se
 use Rattle.std.proofs.lemmas.List.FromFn.{map-range_with_len_more}
 use Rattle.lease_core.specs.declared.requests.Request.{Request}
 use Rattle.lease_core.specs.Routes.{core_of}
-use Rattle.lease_server.specs.Routing.{routed, all_routed, refused, refusal_lines}
-use Rattle.lease_server.specs.Lanes.{given, sent_over, text_given, text_sent}
+use Rattle.lease_server.specs.Routing.{routed, all_routed, refused}
+use Rattle.lease_server.specs.Answers.{refusals_of}
+use Rattle.lease_server.specs.Lanes.{given, sent_over, answers_given, answers_sent}
 use Rattle.lease_server.specs.Dispatch.{AreRouted, Holds, HasSentAll, Answers, Sends}
 use Rattle.lease_server.specs.declared.lanes.Lane.{Lane}
 use Rattle.lease_server.specs.declared.dispatchers.Dispatcher.{Dispatcher}
-use Rattle.lease_server.proofs.RoutingLemmas.{all_none, all_some, as_many, refused_none, refused_some, lines_join}
+use Rattle.lease_server.proofs.RoutingLemmas.{all_none, all_some, as_many, refused_none, refused_some}
+use Rattle.lease_server.proofs.AnswerLemmas.{refusals_join}
 
 -- ---- one lane among many
 
@@ -49,14 +51,14 @@ as_long xs ys e = sym (length-map ys given) ∙ ap length e ∙ length-map xs gi
 pub routed_same : (xs ys : List Lane) → map given ys ≡ map given xs → (asked : List (Option Request)) → AreRouted asked xs → AreRouted asked ys
 routed_same xs ys e asked routed = e ∙ routed ∙ ap (λ k. all_routed k asked) (sym (as_long xs ys e))
 
-pub holds_same : (a b : Dispatcher) → b.last ≡ a.last → map given b.lanes.items ≡ map given a.lanes.items → text_given b.refusals ≡ text_given a.refusals → (asked : List (Option Request)) → Holds asked a → Holds asked b
+pub holds_same : (a b : Dispatcher) → b.last ≡ a.last → map given b.lanes.items ≡ map given a.lanes.items → answers_given b.refusals ≡ answers_given a.refusals → (asked : List (Option Request)) → Holds asked a → Holds asked b
 holds_same a b last lanes refusals asked h = record {
   number = last ∙ h.number;
   lanes = routed_same a.lanes.items b.lanes.items lanes asked h.lanes;
   refusals = refusals ∙ h.refusals;
 }
 
-pub holds_none : (a b : Dispatcher) (number : ℕ) → number ≡ a.last + 1 → b.last ≡ number → map given b.lanes.items ≡ map given a.lanes.items → text_given b.refusals ≡ text_given a.refusals ++ refusal_lines (number ∷ [])
+pub holds_none : (a b : Dispatcher) (number : ℕ) → number ≡ a.last + 1 → b.last ≡ number → map given b.lanes.items ≡ map given a.lanes.items → answers_given b.refusals ≡ answers_given a.refusals ++ refusals_of (number ∷ [])
     → (asked : List (Option Request)) → Holds asked a → Holds (asked ++ None ∷ []) b
 holds_none a b number is last lanes refusals asked h =
     let n : ℕ = length b.lanes.items in
@@ -65,18 +67,18 @@ holds_none a b number is last lanes refusals asked h =
     record {
       number = let k = h.number in omega arith;
       lanes = routed_same a.lanes.items b.lanes.items lanes asked h.lanes ∙ all_none n asked;
-      refusals = refusals ∙ ap (λ l. l ++ refusal_lines (number ∷ [])) h.refusals ∙ sym (lines_join (refused 1 asked) (number ∷ []))
-          ∙ ap (λ k. refusal_lines (refused 1 asked ++ k ∷ [])) nth ∙ ap refusal_lines (sym (refused_none 1 asked));
+      refusals = refusals ∙ ap (λ l. l ++ refusals_of (number ∷ [])) h.refusals ∙ sym (refusals_join (refused 1 asked) (number ∷ []))
+          ∙ ap (λ k. refusals_of (refused 1 asked ++ k ∷ [])) nth ∙ ap refusals_of (sym (refused_none 1 asked));
     }
 
-pub holds_some : (a b : Dispatcher) (number : ℕ) (request : Request) → number ≡ a.last + 1 → b.last ≡ number → text_given b.refusals ≡ text_given a.refusals
+pub holds_some : (a b : Dispatcher) (number : ℕ) (request : Request) → number ≡ a.last + 1 → b.last ≡ number → answers_given b.refusals ≡ answers_given a.refusals
     → ((asked : List (Option Request)) → AreRouted asked a.lanes.items → AreRouted (asked ++ Some request ∷ []) b.lanes.items) → (asked : List (Option Request)) → Holds asked a → Holds (asked ++ Some request ∷ []) b
 holds_some a b number request is last refusals lanes asked h =
     let long : length (asked ++ Some request ∷ []) ≡ length asked + 1 = length-append asked (Some request ∷ []) in
     record {
       number = let k = h.number in omega arith;
       lanes = lanes asked h.lanes;
-      refusals = refusals ∙ h.refusals ∙ ap refusal_lines (sym (refused_some 1 asked request));
+      refusals = refusals ∙ h.refusals ∙ ap refusals_of (sym (refused_some 1 asked request));
     }
 
 -- a lane was added before the first line
@@ -88,7 +90,7 @@ holds_lane a b lane last lanes refusals none h =
       number = last ∙ h.number;
       lanes = ap (λ l. map given l) lanes ∙ map_push given a.lanes.items lane ∙ ap (λ l. l ++ given lane ∷ []) h.lanes ∙ ap (λ x. all_routed n [] ++ x ∷ []) none
           ∙ sym (map-range_with_len_more (λ k. routed k (n + 1) []) 0 n n (omega arith)) ∙ ap (λ k. all_routed k []) (sym long);
-      refusals = ap text_given refusals ∙ h.refusals;
+      refusals = ap answers_given refusals ∙ h.refusals;
     }
 
 -- what was answered was sent

@@ -7,7 +7,10 @@ use Rattle.lease_server.specs.Blocks.{rest_of, IsAtEnd}
 use Rattle.lease_server.specs.Routing.{HasNoFeed}
 use Rattle.lease_server.specs.Dispatch.{Holds, HasSentAll, Answers, Sends}
 use Rattle.lease_server.specs.Splits.{Stands, HasSplit}
-use Rattle.lease_server.specs.Intakes.{Fits, FitsIn, Leads, SendsIn}
+use Rattle.mono_model.specs.declared.poll.Poll.{Poll}
+use Rattle.mono_model.specs.declared.poll.Poll.TheVariants.{Ready, Pending}
+use Rattle.lease_server.specs.Intakes.{Fits, FitsIn, Leads, Polls, SendsIn}
+pub use Rattle.lease_server.specs.Routers.{leads_itself, leads_on}
 use Rattle.lease_server.specs.declared.dispatchers.Dispatcher.{Dispatcher}
 use Rattle.lease_server.specs.declared.splitters.Splitter.{Splitter}
 use Rattle.lease_server.specs.declared.intakes.Phase.{Phase}
@@ -17,12 +20,6 @@ use Rattle.lease_server.proofs.RoutingLemmas.{both_feedless}
 use Rattle.lease_server.proofs.SplitLemmas.{read_none, stands_same}
 use Rattle.lease_server.proofs.DispatchLemmas.{sends}
 
-pub read_on : (a b c : Option (List ℕ)) (xs ys : List ℕ) → HasRead a xs b → HasRead b ys c → HasRead a (xs ++ ys) c
-read_on None b c xs ys one two = subst (λ o. HasRead o ys c) one two
-read_on (Some l) None c xs ys one two = absurd one
-read_on (Some l) (Some m) None xs ys one two = absurd two
-read_on (Some l) (Some m) (Some n) xs ys one two = one ∙ ap (λ r. xs ++ r) two ∙ sym (append_assoc xs ys n)
-
 answers_same : (text : List ℕ) (a b : Dispatcher) → ((asked : List (Option Request)) → Holds asked a → Holds asked b) → Answers text a → Answers text b
 answers_same text a b holds s = record { asked = s.asked; asks = s.asks; holds = holds s.asked s.holds }
 
@@ -30,14 +27,6 @@ flushed : (is : Phase) (text : List ℕ) (left : Option (List ℕ)) (a b : Split
 flushed phase.Reading text left a b block long holds f = stands_same text a b (ap rest_of block) long holds f
 flushed phase.Failed text left a b block long holds f = (stands_same text a b (ap rest_of block) long holds f.0, subst (λ x. HasNoFeed (rest_of x)) (sym block) f.1)
 flushed phase.Ended text left a b block long holds f = (f.0, answers_same text a.dispatcher b.dispatcher holds f.1)
-
-module _ {S : Type 0} (left : S → Option (List ℕ)) where
-  pub leads_itself : (a : Intake S) → Leads left a a
-  leads_itself a = ([], read_none (left a.source), λ text f. subst (λ t. Fits left t a) (sym (append-nil text)) f)
-
-  pub leads_on : (a b c : Intake S) → Leads left a b → Leads left b c → Leads left a c
-  leads_on a b c p q =
-      (p.0 ++ q.0, read_on (left a.source) (left b.source) (left c.source) p.0 q.0 p.1 q.1, λ text f. subst (λ t. Fits left t c) (append_assoc text p.0 q.0) (q.2 (text ++ p.0) (p.2 text f)))
 
 module _ {S : Type 0} (left : S → Option (List ℕ)) where
   pub fits_reading : (a : Intake S) (text : List ℕ) → a.phase ≡ phase.Reading → Stands text a.splitter → Fits left text a
@@ -77,3 +66,22 @@ module _ {S : Type 0} (left : S → Option (List ℕ)) where
       → SendsIn b.phase (text ++ rest) (left b.source) b.splitter.dispatcher
   done a b not led sent text rest f is =
       sends_in b.phase text led.0 rest (left b.source) b.splitter not (subst (λ o. HasRead o led.0 (left b.source)) is led.1) (led.2 text f) sent
+
+read_rest : (after : Option (List ℕ)) (bytes rest : List ℕ) → HasRead (Some rest) bytes after → (others : List ℕ) × (after ≡ Some others) × (rest ≡ bytes ++ others)
+read_rest None bytes rest read = absurd read
+read_rest (Some others) bytes rest read = (others, refl, read)
+
+module _ {S : Type 0} (left : S → Option (List ℕ)) where
+  -- a poll, after calls that led to its intake
+  pub polls_after : (a b c : Intake S) (answer : Poll ℕ) → Leads left a b → Polls left b answer c → Polls left a answer c
+  polls_after a b c Pending one two = leads_on left a b c one two
+  polls_after a b c (Ready status) one two = (
+    leads_on left a b c one two.0,
+    λ other. (
+      (two.1 other).0,
+      λ text rest f is.
+          let more = read_rest (left b.source) one.0 rest (subst (λ o. HasRead o one.0 (left b.source)) is one.1) in
+          let all : (text ++ one.0) ++ more.0 ≡ text ++ rest = append_assoc text one.0 more.0 ∙ ap (λ l. text ++ l) (sym more.2) in
+          subst (λ l. SendsIn c.phase l (left c.source) c.splitter.dispatcher) all ((two.1 other).1 (text ++ one.0) more.0 (one.2 text f) more.1),
+    ),
+  )

@@ -6,12 +6,15 @@ use Rattle.std.proofs.lemmas.List.Concat.{flat_map-append}
 use Rattle.mono_channel.specs.Ends.{sent_by}
 use Rattle.lease_core.specs.declared.requests.Request.{Request}
 use Rattle.lease_server.specs.Outlets.{kept, passed}
-use Rattle.lease_server.specs.Lanes.{joined, given, sent_over, text_given, text_sent}
-use Rattle.lease_server.specs.Routing.{refusal_lines}
+use Rattle.lease_server.specs.Lanes.{joined, given, sent_over, answers_given, answers_sent}
+use Rattle.lease_server.specs.declared.answers.Answer.{Answer}
+use Rattle.lease_server.specs.declared.texts.Text.{Text}
+use Rattle.lease_server.specs.Answers.{refusals_of}
+use Rattle.lease_server.specs.Texts.{said_by, said_by_all}
 use Rattle.lease_server.specs.declared.outlets.Outlet.{Outlet}
 use Rattle.lease_server.specs.declared.lanes.Lane.{Lane}
 use Rattle.lease_server.specs.declared.refusals.Refusals.{Refusals}
-use Rattle.lease_server.proofs.RoutingLemmas.{lines_join}
+use Rattle.lease_server.proofs.AnswerLemmas.{refusals_join}
 
 module _ {A : Type 0} where
   -- the elements of the messages, with those of one more
@@ -38,15 +41,25 @@ given_more a b request outlet requests =
 
 -- ---- the refusals
 
-pub text_same : (a b : Refusals) → passed b.outlet ≡ passed a.outlet → b.numbers.items ≡ a.numbers.items → text_given b ≡ text_given a
-text_same a b outlet numbers = ap (λ l. joined l ++ refusal_lines b.numbers.items) outlet ∙ ap (λ l. joined (passed a.outlet) ++ refusal_lines l) numbers
+-- The answers of the texts, with those of one more.
+pub said_more : (texts : List Text) (text : Text) → said_by_all (texts ++ text ∷ []) ≡ said_by_all texts ++ said_by text
+said_more texts text = flat_map-append said_by texts (text ∷ []) ∙ ap (λ l. said_by_all texts ++ l) (append-nil (said_by text))
 
-pub text_wrapped : (a b : Refusals) (text : Vec ℕ) → passed b.outlet ≡ passed a.outlet ++ text ∷ [] → text.items ≡ refusal_lines a.numbers.items → b.numbers.items ≡ [] → text_given b ≡ text_given a
+-- without a text that was not sent, all were sent
+pub all_said : (outlet : Outlet Text) (xs : List Answer) → outlet.message ≡ None → xs ≡ [] → said_by_all (sent_by outlet.sender) ≡ said_by_all (passed outlet) ++ xs
+all_said outlet xs none empty =
+    let sent = sent_by outlet.sender in
+    sym (ap (λ l. said_by_all (passed outlet) ++ l) empty ∙ append-nil (said_by_all (passed outlet)) ∙ ap (λ o. said_by_all (sent ++ kept o)) none ∙ ap (λ l. said_by_all l) (append-nil sent))
+
+pub text_same : (a b : Refusals) → passed b.outlet ≡ passed a.outlet → b.numbers.items ≡ a.numbers.items → answers_given b ≡ answers_given a
+text_same a b outlet numbers = ap (λ l. said_by_all l ++ refusals_of b.numbers.items) outlet ∙ ap (λ l. said_by_all (passed a.outlet) ++ refusals_of l) numbers
+
+pub text_wrapped : (a b : Refusals) (text : Text) → passed b.outlet ≡ passed a.outlet ++ text ∷ [] → said_by text ≡ refusals_of a.numbers.items → b.numbers.items ≡ [] → answers_given b ≡ answers_given a
 text_wrapped a b text outlet is none =
-    ap (λ l. joined (passed b.outlet) ++ refusal_lines l) none ∙ append-nil (joined (passed b.outlet)) ∙ ap (λ l. joined l) outlet ∙ one_more (passed a.outlet) text ∙ ap (λ l. joined (passed a.outlet) ++ l) is
+    ap (λ l. said_by_all (passed b.outlet) ++ refusals_of l) none ∙ append-nil (said_by_all (passed b.outlet)) ∙ ap (λ l. said_by_all l) outlet ∙ said_more (passed a.outlet) text ∙ ap (λ l. said_by_all (passed a.outlet) ++ l) is
 
-pub text_more : (a b : Refusals) (number : ℕ) → b.outlet ≡ a.outlet → b.numbers.items ≡ a.numbers.items ++ number ∷ [] → text_given b ≡ text_given a ++ refusal_lines (number ∷ [])
+pub text_more : (a b : Refusals) (number : ℕ) → b.outlet ≡ a.outlet → b.numbers.items ≡ a.numbers.items ++ number ∷ [] → answers_given b ≡ answers_given a ++ refusals_of (number ∷ [])
 text_more a b number outlet numbers =
-    ap (λ (o : Outlet (Vec ℕ)). joined (passed o) ++ refusal_lines b.numbers.items) outlet
-    ∙ ap (λ l. joined (passed a.outlet) ++ l) (ap refusal_lines numbers ∙ lines_join a.numbers.items (number ∷ []))
-    ∙ sym (append_assoc (joined (passed a.outlet)) (refusal_lines a.numbers.items) (refusal_lines (number ∷ [])))
+    ap (λ (o : Outlet Text). said_by_all (passed o) ++ refusals_of b.numbers.items) outlet
+    ∙ ap (λ l. said_by_all (passed a.outlet) ++ l) (ap refusals_of numbers ∙ refusals_join a.numbers.items (number ∷ []))
+    ∙ sym (append_assoc (said_by_all (passed a.outlet)) (refusals_of a.numbers.items) (refusals_of (number ∷ [])))

@@ -1,3 +1,4 @@
+pub mod AnswerLemmas
 pub mod ServedLemmas
 pub mod BlockLemmas
 pub mod RoutingLemmas
@@ -7,3 +8,10 @@ pub mod DispatchLemmas
 pub mod WayLemmas
 pub mod IntakeLemmas
 pub mod ExampleLemmas
+pub mod PrinterLemmas
+pub mod ThreadLemmas
+pub mod RoutedLemmas
+pub mod EndLemmas
+pub mod OnceLemmas
+pub mod HolderLemmas
+pub mod StationLemmas

@@ -16,7 +16,7 @@ use Rattle.lease_core.specs.declared.requests.Request.{Request}
 use Rattle.lease_core.specs.Routes.{core_of}
 use Rattle.lease_lines.specs.Lines.{call_text, FitsCall, Spells, SpellsNone}
 use Rattle.lease_lines.specs.Replies.{bad_text}
-use Rattle.lease_server.specs.Routing.{Asks, Ask, routed, all_routed, refused, refusal_lines, HasNoFeed, EndsLines}
+use Rattle.lease_server.specs.Routing.{Asks, Ask, routed, all_routed, refused, HasNoFeed, EndsLines}
 
 -- ---- line feeds
 
@@ -175,6 +175,3 @@ pub refused_some : (n : ℕ) (asked : List (Option Request)) (request : Request)
 refused_some n [] request = refl
 refused_some n (None ∷ asked) request = ap (λ l. n ∷ l) (refused_some (n + 1) asked request)
 refused_some n (Some r ∷ asked) request = refused_some (n + 1) asked request
-
-pub lines_join : (xs ys : List ℕ) → refusal_lines (xs ++ ys) ≡ refusal_lines xs ++ refusal_lines ys
-lines_join xs ys = flat_map-append (λ n. bad_text n ++ 10 ∷ []) xs ys

@@ -6,7 +6,8 @@ use Rattle.lease_core.specs.declared.requests.Call.{Call}
 use Rattle.lease_core.specs.declared.requests.Call.TheVariants as call
 use Rattle.lease_core.specs.declared.requests.Request.{Request}
 use Rattle.lease_lines.specs.Lines.{call_text}
-use Rattle.lease_server.specs.Routing.{Ask, routed, all_routed, refused, refusal_lines}
+use Rattle.lease_server.specs.Routing.{Ask, routed, all_routed, refused}
+use Rattle.lease_server.specs.Answers.{answer_lines, refusals_of}
 
 abbrev pub spawn : ℕ → ℕ → Request
 spawn number key = record { number = number; key = key; call = call.Spawn }
@@ -27,7 +28,7 @@ SmallAsks = Ask 1 (lines small_input) small_asked
 
 -- Of two cores, key 3 is of core 0, and keys 4 and 5 are of core 1. The two other lines are refused by their numbers.
 abbrev pub SmallRoutes : Type 0
-SmallRoutes = (all_routed 2 small_asked ≡ (spawn 3 3 ∷ []) ∷ (opened ∷ spawn 4 5 ∷ []) ∷ []) × (refusal_lines (refused 1 small_asked) ≡ codes "2 bad" ++ 10 ∷ (codes "5 bad" ++ 10 ∷ []))
+SmallRoutes = (all_routed 2 small_asked ≡ (spawn 3 3 ∷ []) ∷ (opened ∷ spawn 4 5 ∷ []) ∷ []) × (answer_lines (refusals_of (refused 1 small_asked)) ≡ codes "2 bad" ++ 10 ∷ (codes "5 bad" ++ 10 ∷ []))
 
 abbrev pub two_lines : List ℕ
 two_lines = codes "spawn 4" ++ 10 ∷ (codes "spawn 5" ++ 10 ∷ [])

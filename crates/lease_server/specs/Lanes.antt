@@ -1,11 +1,13 @@
--- The requests of a lane, and the text of the refusals.
+-- The requests of a lane, and the answers of the refusals.
 use Rattle.std.specs.Prelude.{◌≡◌, ℕ, List, [], ◌++◌}
 use Rattle.std.specs.List.{flat_map}
 use Rattle.std.specs.Global.{Vec}
 use Rattle.mono_channel.specs.Ends.{sent_by}
 use Rattle.lease_core.specs.declared.requests.Request.{Request}
 use Rattle.lease_server.specs.Outlets.{passed}
-use Rattle.lease_server.specs.Routing.{refusal_lines}
+use Rattle.lease_server.specs.declared.answers.Answer.{Answer}
+use Rattle.lease_server.specs.Answers.{refusals_of}
+use Rattle.lease_server.specs.Texts.{said_by_all}
 use Rattle.lease_server.specs.declared.lanes.Lane.{Lane}
 use Rattle.lease_server.specs.declared.refusals.Refusals.{Refusals}
 
@@ -21,10 +23,10 @@ sent_over lane = joined (sent_by lane.outlet.sender)
 abbrev pub given : Lane → List Request
 given lane = joined (passed lane.outlet) ++ lane.requests.items
 
--- The text of the refusals that was sent.
-abbrev pub text_sent : Refusals → List ℕ
-text_sent refusals = joined (sent_by refusals.outlet.sender)
+-- The refusals whose text was sent.
+abbrev pub answers_sent : Refusals → List Answer
+answers_sent refusals = said_by_all (sent_by refusals.outlet.sender)
 
--- The text of the refusals that was sent, the one that was not sent yet, and that of the numbers that were collected.
-abbrev pub text_given : Refusals → List ℕ
-text_given refusals = joined (passed refusals.outlet) ++ refusal_lines refusals.numbers.items
+-- The refusals whose text was sent, those of the text that was not sent yet, and those of the numbers that were collected.
+abbrev pub answers_given : Refusals → List Answer
+answers_given refusals = said_by_all (passed refusals.outlet) ++ refusals_of refusals.numbers.items

@@ -1,3 +1,5 @@
+pub mod Answers
+pub mod Texts
 pub mod Desks
 pub mod CoreRuns
 pub mod Pasts
@@ -11,3 +13,8 @@ pub mod Outlets
 pub mod Routing
 pub mod Splits
 pub mod Examples
+pub mod EndToEnd
+pub mod Printers
+pub mod Routers
+pub mod Threads
+pub mod Stations

@@ -1,11 +1,10 @@
 -- What the lines of an input ask: which requests each core gets, and which lines are refused.
 use Rattle.std.specs.Prelude.{◌≡◌, ◌==◌, ◌+◌, ℕ, Bool, true, false, if◌then◌else◌, List, [], ◌∷◌, ◌++◌, map, Option, Some, None}
-use Rattle.std.specs.List.{flat_map, range_with_len}
+use Rattle.std.specs.List.{range_with_len}
 use Rattle.mono_text.specs.Lines.{Line, lines}
 use Rattle.lease_core.specs.declared.requests.Request.{Request}
 use Rattle.lease_core.specs.Routes.{core_of}
 use Rattle.lease_lines.specs.Lines.{Spells, SpellsNone}
-use Rattle.lease_lines.specs.Replies.{bad_text}
 
 -- What a line asks: the request that it spells, with the line's number, or nothing. A line that no line feed ends asks nothing.
 abbrev pub Asks : ℕ → Line → Option Request → Type 0
@@ -34,10 +33,6 @@ abbrev pub refused : ℕ → List (Option Request) → List ℕ
 refused n [] = []
 refused n (None ∷ asked) = n ∷ refused (n + 1) asked
 refused n (Some request ∷ asked) = refused (n + 1) asked
-
--- The text that refuses the lines of these numbers.
-abbrev pub refusal_lines : List ℕ → List ℕ
-refusal_lines numbers = flat_map (λ n. bad_text n ++ 10 ∷ []) numbers
 
 -- The bytes have no line feed.
 abbrev pub HasNoFeed : List ℕ → Type 0

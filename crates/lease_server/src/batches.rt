@@ -1,10 +1,12 @@
 // The steps of a core at its desk, and the lines of their replies.
 ghost use Rattle.std.specs.Prelude.{OnOk, IfOk};
 ghost use Rattle.mono_time.specs.Instants.{nanos_of};
-ghost use Rattle.lease_server.specs.Desks.{Leads};
-ghost use Rattle.lease_server.specs.Served.{Serves, ServesNext, ServesAt, handled};
+ghost use Rattle.lease_server.specs.Outlets.{Keeps};
+ghost use Rattle.lease_server.specs.Served.{PerformsSome, Takes, Serves, ServesNext, ServesAt, handled};
+ghost use Rattle.lease_server.specs.Texts.{said_by};
 
 use crate::desks::Desk;
+use crate::texts::Text;
 use lease_core::Request;
 use lease_lines::Stamp;
 use mono_channel::Receiver;
@@ -28,10 +30,10 @@ fn perform(
     stamp: &Stamp,
     alloc: Global,
     requests: &[Request],
-    out: &mut Vec<u8>,
+    out: &mut Text,
 ) -> Result<(), AllocError>
-    ensures led { Leads desk.old desk.new }
-    ensures served { OnOk result (Serves desk.old stamp.now.core (handled requests.now) out.old.items desk.new out.new.items) }
+    ensures performed { PerformsSome desk.old requests.now desk.new }
+    ensures served { OnOk result (Serves desk.old stamp.now.core (handled requests.now) (said_by out.old) desk.new (said_by out.new)) }
 {
     for request in requests {
         desk.handle(alloc, stamp, request, out)?;
@@ -40,6 +42,7 @@ fn perform(
 }
 
 // Takes the next requests of the channel and performs them, or ends the input if the channel was closed.
+#[tactic(auto, using(crate::proofs::ServedLemmas::polls_keep))]
 fn serve_next<R: Host>(
     desk: &mut Desk,
     stamp: &Stamp,
@@ -47,10 +50,11 @@ fn serve_next<R: Host>(
     rt: &R,
     alloc: Global,
     waker: &RemoteWaker<UnparkHandle>,
-    out: &mut Vec<u8>,
+    out: &mut Text,
 ) -> Result<Came, AllocError>
-    ensures led { Leads desk.old desk.new }
-    ensures served { IfOk result (λ came. ServesNext came desk.old stamp.now.core requests.old out.old.items desk.new requests.new out.new.items) }
+    ensures taken { Takes desk.old requests.old desk.new requests.new }
+    ensures kept { Keeps requests.old requests.new }
+    ensures served { IfOk result (λ came. ServesNext came desk.old stamp.now.core requests.old (said_by out.old) desk.new requests.new (said_by out.new)) }
 {
     match requests.poll_recv(rt, waker) {
         Poll::Pending => Ok(Came::Nothing),
@@ -70,8 +74,9 @@ fn serve_next<R: Host>(
 /// text of all replies.
 ///
 /// The replies are those of a run of the core's model: the clock step, and then the requests of the message that was
-/// received, in order, or the end of the input. The core's past grows by this run (`served`); also if out of memory, it
-/// grows by a run (`led`).
+/// received, in order, or the end of the input. The core's past grows by this run (`served`). Also if out of memory,
+/// it grows by a run, whose requests are a beginning of those that were received (`taken`), and the channel is the same
+/// (`kept`).
 pub fn serve_at<R: Host>(
     desk: &mut Desk,
     requests: &mut Receiver<Vec<Request>, UnparkHandle>,
@@ -79,11 +84,12 @@ pub fn serve_at<R: Host>(
     alloc: Global,
     waker: &RemoteWaker<UnparkHandle>,
     now: Instant,
-) -> Result<(Came, Vec<u8>), AllocError>
-    ensures led { Leads desk.old desk.new }
-    ensures served { IfOk result (λ r. ServesAt r.0 desk.old (nanos_of now) requests.old desk.new requests.new r.1.items) }
+) -> Result<(Came, Text), AllocError>
+    ensures taken { Takes desk.old requests.old desk.new requests.new }
+    ensures kept { Keeps requests.old requests.new }
+    ensures served { IfOk result (λ r. ServesAt r.0 desk.old (nanos_of now) requests.old desk.new requests.new (said_by r.1)) }
 {
-    let mut out = Vec::new(alloc);
+    let mut out = Text::new(alloc);
     let stamp = desk.show(alloc, now, &mut out)?;
     let came = serve_next(desk, &stamp, requests, rt, alloc, waker, &mut out)?;
     Ok((came, out))

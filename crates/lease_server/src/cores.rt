@@ -1,12 +1,9 @@
 // The task of one core.
 ghost use Rattle.std.specs.Prelude.{IfOk};
-ghost use Rattle.lease_server.specs.Served.{ServesAt};
+ghost use Rattle.lease_server.specs.Stations.{Turns};
 
-use crate::batches::{Came, serve_at};
-use crate::desks::Desk;
+use crate::stations::Station;
 use crate::status;
-use lease_core::Request;
-use mono_channel::{Receiver, Sender};
 use mono_rt::{
     Context, Host, Instant, Poll, RemoteContext, RemoteWaker, SharedContext, Sleep, TaskFuture,
     TimeContext, UnparkHandle, sleep,
@@ -18,96 +15,22 @@ use std::time::Duration;
 // How long a core with waiting acquires sleeps before it looks at the clock, in milliseconds.
 const NAP: u64 = 1;
 
-/// The ends of a core's channels.
+/// A task that performs the requests that come to the shared station, and sends the text of the replies. It answers a
+/// status once the requests have ended, each was answered and all text was sent.
 #[derive(Drop)]
-pub struct CoreEnds {
-    pub requests: Receiver<Vec<Request>, UnparkHandle>,
-    pub texts: Sender<Vec<u8>, UnparkHandle>,
-}
-
-impl CoreEnds {
-    /// Closes both. The router and the writer learn it.
-    pub fn close<R: Host>(&mut self, rt: &R) {
-        self.requests.close(rt);
-        self.texts.close(rt);
-    }
-}
-
-/// A task that performs the requests that it receives at the shared desk, and sends the text of the replies. It answers a
-/// status once the requests have ended, each was answered and all text was sent. Its ends stay with the caller, who closes
-/// them.
-#[derive(Drop)]
-pub struct CoreTask<'a> {
-    ends: &'a mut CoreEnds,
-    // The text that was not sent yet, if any.
-    text: Option<Vec<u8>>,
+pub struct CoreTask {
     nap: Option<Sleep>,
-    has_ended: bool,
 }
 
-impl<'a> CoreTask<'a> {
+impl CoreTask {
     /// Returns the task of a core.
-    pub fn new(ends: &'a mut CoreEnds) -> CoreTask<'a> {
-        CoreTask {
-            ends,
-            text: None,
-            nap: None,
-            has_ended: false,
-        }
-    }
-
-    // Shows the clock, and then performs the next requests. Returns whether there were any.
-    fn step<C: SharedContext<Desk>, R: Host>(
-        &mut self,
-        rt: &R,
-        alloc: Global,
-        cx: &mut C,
-        waker: &RemoteWaker<UnparkHandle>,
-    ) -> Result<bool, AllocError>
-        ensures { C.reaches cx.old cx.new }
-    {
-        let (came, text) = serve_shared(cx, &mut self.ends.requests, rt, alloc, waker)?;
-        self.has_ended = came == Came::End;
-        if text.len() > 0 {
-            self.text = Some(text);
-        }
-        Ok(came == Came::Requests)
-    }
-
-    // Sends the text that was not sent yet. Returns whether none is left.
-    fn flush<R: Host>(
-        &mut self,
-        rt: &R,
-        waker: &RemoteWaker<UnparkHandle>,
-    ) -> Result<bool, AllocError> {
-        match self.ends.texts.poll_send(rt, waker, &mut self.text) {
-            Poll::Pending => Ok(false),
-            Poll::Ready(Ok(())) => Ok(true),
-            Poll::Ready(Err(_)) => Err(AllocError),
-        }
-    }
-
-    // Sends what is left, then performs the next requests and sends their replies. Returns whether the task is to be
-    // polled again at once.
-    fn turn<C: SharedContext<Desk>, R: Host>(
-        &mut self,
-        rt: &R,
-        alloc: Global,
-        cx: &mut C,
-        waker: &RemoteWaker<UnparkHandle>,
-    ) -> Result<bool, AllocError>
-        ensures { C.reaches cx.old cx.new }
-    {
-        if !self.flush(rt, waker)? || self.has_ended {
-            return Ok(false);
-        }
-        let came = self.step(rt, alloc, cx, waker)?;
-        Ok(self.flush(rt, waker)? && came)
+    pub fn new() -> CoreTask {
+        CoreTask { nap: None }
     }
 
     // Sleeps for a while if an acquire waits, so that it is answered soon after a session closes. A sleep that cannot be
     // made is made in a later turn.
-    fn rest<C: TimeContext + SharedContext<Desk>, R: Host>(
+    fn rest<C: TimeContext + SharedContext<Station>, R: Host>(
         &mut self,
         rt: &R,
         alloc: Global,
@@ -147,7 +70,7 @@ impl<'a> CoreTask<'a> {
     }
 
     // Ends if all was done, and otherwise rests.
-    fn end_or_rest<C: TimeContext + SharedContext<Desk>, R: Host>(
+    fn end_or_rest<C: TimeContext + SharedContext<Station>, R: Host>(
         &mut self,
         rt: &R,
         alloc: Global,
@@ -155,7 +78,7 @@ impl<'a> CoreTask<'a> {
     ) -> Poll<u64>
         ensures { C.reaches cx.old cx.new }
     {
-        if self.has_ended && self.text.is_none() {
+        if cx.shared().is_done() {
             return Poll::Ready(status::DONE);
         }
         self.rest(rt, alloc, cx);
@@ -163,20 +86,18 @@ impl<'a> CoreTask<'a> {
     }
 }
 
-// Shows the shared core's clock the turn's instant, and then performs the next requests of the channel, as `serve_at`
-// does.
-fn serve_shared<C: SharedContext<Desk>, R: Host>(
+// Performs one turn at the shared station, at the turn's instant, as `Station::turn` does.
+fn turn_shared<C: SharedContext<Station>, R: Host>(
     cx: &mut C,
-    requests: &mut Receiver<Vec<Request>, UnparkHandle>,
     rt: &R,
     alloc: Global,
     waker: &RemoteWaker<UnparkHandle>,
-) -> Result<(Came, Vec<u8>), AllocError>
+) -> Result<bool, AllocError>
     ensures reached { C.reaches cx.old cx.new }
-    ensures served { IfOk result (λ r. ServesAt r.0 (C.shared cx.old) (C.nanos cx.old) requests.old (C.shared cx.new) requests.new r.1.items) }
+    ensures turned { IfOk result (λ more. Turns (C.nanos cx.old) (C.shared cx.old) (C.shared cx.new)) }
 {
     let now = Instant::now(cx);
-    serve_at(cx.shared_mut(), requests, rt, alloc, waker, now)
+    cx.shared_mut().turn(rt, alloc, waker, now)
 }
 
 // Queues the running task again after its turn.
@@ -187,8 +108,8 @@ fn again<C: Context>(cx: &mut C)
     let _ = cx.wake(me);
 }
 
-impl<'a, C: RemoteContext<UnparkHandle> + TimeContext + SharedContext<Desk>> TaskFuture<C>
-    for CoreTask<'a> {
+impl<C: RemoteContext<UnparkHandle> + TimeContext + SharedContext<Station>> TaskFuture<C>
+    for CoreTask {
     type Output = u64;
 
     fn spent(&self) -> bool {
@@ -199,7 +120,7 @@ impl<'a, C: RemoteContext<UnparkHandle> + TimeContext + SharedContext<Desk>> Tas
         let Ok(waker) = cx.remote_waker() else {
             return Poll::Ready(status::MEMORY);
         };
-        match self.turn(rt, alloc, cx, &waker) {
+        match turn_shared(cx, rt, alloc, &waker) {
             Err(_) => Poll::Ready(status::MEMORY),
             Ok(true) => {
                 again(cx);

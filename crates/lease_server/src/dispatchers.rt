@@ -1,12 +1,15 @@
 // The numbers of the lines, and the ways of their requests and refusals.
 ghost use Rattle.std.specs.Prelude.{◌≡◌, ◌+◌, ◌++◌, ◌∷◌, [], true, List, map, Option, None, Some, IfOk, OnOk, OnErr};
-ghost use Rattle.mono_channel.specs.Ends.{sent_by};
+ghost use Rattle.mono_channel.specs.Delivery.{shares_kept, shares_given};
+ghost use Rattle.mono_channel.specs.Ends.{sent_by, shares_of, IsPair};
 ghost use Rattle.lease_core.specs.declared.requests.Request.{Request};
+ghost use Rattle.lease_server.specs.declared.lanes.Lane.{Lane};
 ghost use Rattle.lease_server.specs.Lanes.{given, sent_over};
 ghost use Rattle.lease_server.specs.Dispatch.{AreRouted, HaveSameWays, HasRoom, Holds, HasSentAll, KeepsWays};
 
 use crate::lanes::Lane;
 use crate::refusals::Refusals;
+use crate::texts::Text;
 use lease_core::{Request, core_of};
 use mono_channel::Sender;
 use mono_rt::{Host, RemoteWaker, UnparkHandle};
@@ -39,6 +42,27 @@ fn flush_all<R: Host>(
     Ok(true)
 }
 
+// Closes the channels of the lanes.
+fn close_all<R: Host>(lanes: &mut [Lane], rt: &R)
+    ensures { lanes.new ≡ lanes.old }
+{
+    for lane in lanes.iter_mut() {
+        lane.close(rt);
+    }
+}
+
+// Returns whether each lane has sent all requests that it was given.
+fn have_sent_all(lanes: &[Lane]) -> bool
+    ensures { result ≡ true → map sent_over lanes.now ≡ map given lanes.now }
+{
+    for lane in lanes {
+        if !lane.has_sent_all() {
+            return false;
+        }
+    }
+    true
+}
+
 // Gives the lane of its core a request. It fails if out of memory, or without a lane: then each lane was given the same.
 #[inline]
 fn route(lanes: &mut [Lane], request: Request) -> Result<(), AllocError>
@@ -55,8 +79,10 @@ fn route(lanes: &mut [Lane], request: Request) -> Result<(), AllocError>
 
 impl Dispatcher {
     /// Returns a dispatcher that refuses over this channel, without a core.
-    pub fn new(alloc: Global, texts: Sender<Vec<u8>, UnparkHandle>) -> Dispatcher
-        ensures { sent_by texts ≡ [] → Holds [] result }
+    pub fn new(alloc: Global, texts: Sender<Text, UnparkHandle>) -> Dispatcher
+        ensures holds { sent_by texts ≡ [] → Holds [] result }
+        ensures lanes { result.lanes.items ≡ [] }
+        ensures texts { result.refusals.outlet.sender ≡ texts }
     {
         Dispatcher {
             lanes: Vec::new(alloc),
@@ -69,14 +95,20 @@ impl Dispatcher {
     pub fn reserve(&mut self) -> Result<(), AllocError>
         ensures room { OnOk result (HasRoom self.new) }
         ensures holds { (asked : List (Option Request)) → Holds asked self.old → Holds asked self.new }
+        ensures lanes { self.new.lanes.items ≡ self.old.lanes.items }
+        ensures refusals { self.new.refusals ≡ self.old.refusals }
     {
         self.lanes.reserve(1)
     }
 
     /// Returns a further sender of the channel of the texts. Fails only if the count of owners cannot grow.
-    pub fn texts<R: Host>(&mut self, rt: &R) -> Result<Sender<Vec<u8>, UnparkHandle>, AllocError>
+    pub fn texts<R: Host>(&mut self, rt: &R) -> Result<Sender<Text, UnparkHandle>, AllocError>
         ensures room { HasRoom self.old → HasRoom self.new }
         ensures holds { (asked : List (Option Request)) → Holds asked self.old → Holds asked self.new }
+        ensures lanes { self.new.lanes.items ≡ self.old.lanes.items }
+        ensures same { IsPair self.new.refusals.outlet.sender self.old.refusals.outlet.sender }
+        ensures further { IfOk result (λ sender. IsPair sender self.old.refusals.outlet.sender × (sent_by sender ≡ [])) }
+        ensures shares { IfOk result (λ sender. (shares_of self.new.refusals.outlet.sender ≡ shares_kept (shares_of self.old.refusals.outlet.sender)) × (shares_of sender ≡ shares_given (shares_of self.old.refusals.outlet.sender))) }
     {
         self.refusals.try_clone(rt)
     }
@@ -84,17 +116,40 @@ impl Dispatcher {
     /// Adds the lane of the next core, over this channel.
     pub fn add(&mut self, alloc: Global, sender: Sender<Vec<Request>, UnparkHandle>)
         requires { HasRoom self.old }
-        ensures { sent_by sender ≡ [] → Holds [] self.old → Holds [] self.new }
+        ensures holds { sent_by sender ≡ [] → Holds [] self.old → Holds [] self.new }
+        ensures lane { (lane : Lane) × (lane.outlet.sender ≡ sender) × (self.new.lanes.items ≡ self.old.lanes.items ++ lane ∷ []) }
+        ensures refusals { self.new.refusals ≡ self.old.refusals }
     {
         self.lanes.push_reserved(Lane::new(alloc, sender));
     }
 
     /// Closes all channels. The cores and the writer learn it.
-    pub fn close<R: Host>(&mut self, rt: &R) {
-        for lane in self.lanes.iter_mut() {
-            lane.close(rt);
-        }
+    pub fn close<R: Host>(&mut self, rt: &R)
+        ensures lanes { self.new.lanes.items ≡ self.old.lanes.items }
+        ensures refusals { self.new.refusals ≡ self.old.refusals }
+        ensures last { self.new.last ≡ self.old.last }
+    {
+        close_all(&mut self.lanes, rt);
         self.refusals.close(rt);
+    }
+
+    /// Returns whether all that was given was sent.
+    pub fn has_sent_all(&self) -> bool
+        ensures { result ≡ true → HasSentAll self.now }
+    {
+        have_sent_all(&self.lanes) && self.refusals.has_sent_all()
+    }
+
+    /// Returns the lanes and the refusals.
+    pub fn into_parts(self) -> (Vec<Lane>, Refusals)
+        ensures { (result.0 ≡ self.lanes) × (result.1 ≡ self.refusals) }
+    {
+        let Dispatcher {
+            lanes,
+            refusals,
+            last: _,
+        } = self;
+        (lanes, refusals)
     }
 
     /// Returns the number of the next line. It fails if no number is left.

@@ -2,14 +2,15 @@
 ghost use Rattle.std.specs.Prelude.{◌≡◌, ◌++◌, ℕ, true, false, List, [], IfOk, Some};
 ghost use Rattle.lease_server.specs.Blocks.{rest_of, IsAtEnd};
 ghost use Rattle.lease_server.specs.Routing.{HasNoFeed};
-ghost use Rattle.lease_server.specs.Dispatch.{Holds, KeepsWays};
+ghost use Rattle.lease_server.specs.Dispatch.{Holds, HasSentAll, KeepsWays};
 ghost use Rattle.lease_server.specs.Splits.{Stands};
-ghost use Rattle.lease_server.specs.Intakes.{Fits, Leads, SendsIn, status_of};
+ghost use Rattle.lease_server.specs.Intakes.{Fits, Leads, Polls, SendsIn, status_of};
+ghost use Rattle.lease_server.specs.Routers.{LeadsOn};
 
 use crate::dispatchers::Dispatcher;
 use crate::splitters::Splitter;
 use crate::status;
-use mono_rt::{Host, RemoteWaker, UnparkHandle};
+use mono_rt::{Host, Poll, RemoteWaker, UnparkHandle};
 use mono_text::{Source, SourceFault};
 use std::alloc::{AllocError, Global};
 
@@ -36,6 +37,7 @@ impl<S: Source> Intake<S> {
     /// Returns the intake of a source of which nothing was read. It reads into this buffer.
     pub fn new(source: S, buffer: Vec<u8>, dispatcher: Dispatcher) -> Intake<S>
         ensures source { result.source ≡ source }
+        ensures dispatcher { result.splitter.dispatcher ≡ dispatcher }
         ensures fits { Holds [] dispatcher → Fits S.left [] result }
     {
         Intake {
@@ -46,8 +48,43 @@ impl<S: Source> Intake<S> {
     }
 
     /// Closes all channels.
-    pub fn close<R: Host>(&mut self, rt: &R) {
+    pub fn close<R: Host>(&mut self, rt: &R)
+        ensures source { self.new.source ≡ self.old.source }
+        ensures phase { self.new.phase ≡ self.old.phase }
+        ensures lanes { self.new.splitter.dispatcher.lanes.items ≡ self.old.splitter.dispatcher.lanes.items }
+        ensures refusals { self.new.splitter.dispatcher.refusals ≡ self.old.splitter.dispatcher.refusals }
+    {
         self.splitter.dispatcher.close(rt);
+    }
+
+    /// Returns the status with which the intake ends: `DONE` if the input has ended and all was sent, a failed read, or
+    /// out of memory.
+    pub fn end(&self) -> u64
+        ensures { result ≡ 0 → (self.now.phase ≡ Phase.Ended) × HasSentAll self.now.splitter.dispatcher }
+    {
+        match self.phase {
+            Phase::Reading => status::MEMORY,
+            Phase::Failed => status::READ,
+            Phase::Ended => {
+                if self.splitter.dispatcher.has_sent_all() {
+                    status::DONE
+                } else {
+                    status::MEMORY
+                }
+            }
+        }
+    }
+
+    /// Returns the source and the dispatcher.
+    pub fn into_parts(self) -> (S, Dispatcher)
+        ensures { (result.0 ≡ self.source) × (result.1 ≡ self.splitter.dispatcher) }
+    {
+        let Intake {
+            source,
+            splitter,
+            phase: _,
+        } = self;
+        (source, splitter.into_dispatcher())
     }
 
     /// Returns the status of an intake that is done: a failed read, or `DONE`.
@@ -107,6 +144,24 @@ impl<S: Source> Intake<S> {
         let outcome = self.splitter.read(&mut self.source);
         self.splitter.take_lines()?;
         self.end_if(outcome)
+    }
+
+    /// Sends and reads until a channel is full or the input has ended. Returns a status if it is done: of the intake, or
+    /// out of memory.
+    pub fn poll<R: Host>(
+        &mut self,
+        rt: &R,
+        alloc: Global,
+        waker: &RemoteWaker<UnparkHandle>,
+    ) -> Poll<u64>
+        ensures led { LeadsOn S.left self.old self.new }
+        ensures polled { Polls S.left self.old result self.new }
+    {
+        match self.go_on(rt, alloc, waker) {
+            Ok(false) => Poll::Pending,
+            Ok(true) => Poll::Ready(self.status()),
+            Err(_) => Poll::Ready(status::MEMORY),
+        }
     }
 
     /// Sends and reads until a channel is full or the input has ended. Returns whether the input has ended, or a read

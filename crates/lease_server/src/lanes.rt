@@ -1,7 +1,8 @@
 // The way of requests to a core.
 ghost use Rattle.std.specs.Prelude.{◌≡◌, ◌++◌, ◌∷◌, [], true, IfOk, OnOk, OnErr, None};
-ghost use Rattle.mono_channel.specs.Ends.{sent_by, IsPair};
+ghost use Rattle.mono_channel.specs.Ends.{sent_by};
 ghost use Rattle.lease_server.specs.Lanes.{given, sent_over};
+ghost use Rattle.lease_server.specs.Outlets.{Stays};
 
 use crate::outlets::Outlet;
 use lease_core::Request;
@@ -36,10 +37,28 @@ impl Lane {
         self.outlet.close(rt);
     }
 
+    /// Returns whether all requests that the lane was given were sent.
+    pub fn has_sent_all(&self) -> bool
+        ensures { result ≡ true → sent_over self.now ≡ given self.now }
+    {
+        self.requests.is_empty() && self.outlet.is_empty()
+    }
+
+    /// Returns the sender.
+    pub fn into_sender(self) -> Sender<Vec<Request>, UnparkHandle>
+        ensures { result ≡ self.outlet.sender }
+    {
+        let Lane {
+            requests: _,
+            outlet,
+        } = self;
+        outlet.into_sender()
+    }
+
     /// Collects a request. If out of memory, the lane stays.
     #[inline]
     pub fn take(&mut self, request: Request) -> Result<(), AllocError>
-        ensures same { IsPair self.new.outlet.sender self.old.outlet.sender }
+        ensures same { Stays self.old.outlet.sender self.new.outlet.sender }
         ensures ok { OnOk result (given self.new ≡ given self.old ++ request ∷ []) }
         ensures err { OnErr result (given self.new ≡ given self.old) }
     {
@@ -50,7 +69,7 @@ impl Lane {
     // Makes one message of the requests that were collected, if any.
     fn wrap(&mut self, alloc: Global)
         requires { self.old.outlet.message ≡ None }
-        ensures same { IsPair self.new.outlet.sender self.old.outlet.sender }
+        ensures same { Stays self.old.outlet.sender self.new.outlet.sender }
         ensures given { given self.new ≡ given self.old }
         ensures wrapped { self.new.requests.items ≡ [] }
     {
@@ -68,7 +87,7 @@ impl Lane {
         alloc: Global,
         waker: &RemoteWaker<UnparkHandle>,
     ) -> Result<bool, AllocError>
-        ensures same { IsPair self.new.outlet.sender self.old.outlet.sender }
+        ensures same { Stays self.old.outlet.sender self.new.outlet.sender }
         ensures given { given self.new ≡ given self.old }
         ensures sent { IfOk result (λ is_sent. is_sent ≡ true → sent_over self.new ≡ given self.new) }
     {

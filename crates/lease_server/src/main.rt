@@ -1,14 +1,17 @@
 //! A server of leases, locks, token buckets and mailboxes, with one runtime and one thread for each core.
 #![tactic(auto)]
 
+mod answers;
 mod batches;
 mod blocks;
 mod clocks;
+mod core_threads;
 mod cores;
 mod desks;
 mod dispatchers;
 mod intakes;
 mod lanes;
+mod laws;
 mod outlets;
 mod pages;
 mod pasts;
@@ -17,7 +20,9 @@ mod router;
 mod rows;
 mod servers;
 mod splitters;
+mod stations;
 mod status;
+mod texts;
 mod words;
 mod writer;
 
@@ -84,7 +89,7 @@ fn main(rt: HostRuntime) -> ExitCode {
         Ok(Some(settings)) => {
             let source = StdinSource::new(rt.stdin());
             let sink = StdoutSink::new(rt.stdout());
-            let status = serve(rt, rt.alloc(), &settings, source, sink);
+            let status = serve(rt, rt.alloc(), &settings, source, sink).status;
             tell(&rt, u64::from(status));
             ExitCode::from(status)
         }

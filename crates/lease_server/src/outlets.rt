@@ -1,8 +1,9 @@
 // The end of a channel, with the message that was not sent yet.
 ghost use Rattle.std.specs.Prelude.{◌≡◌, ◌++◌, ◌∷◌, [], true, IfOk, None};
-ghost use Rattle.mono_channel.specs.Ends.{sent_by, IsPair};
+ghost use Rattle.mono_channel.specs.Delivery.{shares_kept, shares_given};
+ghost use Rattle.mono_channel.specs.Ends.{sent_by, shares_of, IsPair};
 ghost use Rattle.mono_channel.specs.Errors.{unsent};
-ghost use Rattle.lease_server.specs.Outlets.{passed, KeepsAll};
+ghost use Rattle.lease_server.specs.Outlets.{passed, KeepsAll, Stays};
 
 use mono_channel::{SendError, Sender};
 use mono_rt::{Host, Poll, RemoteWaker, UnparkHandle};
@@ -46,16 +47,33 @@ impl<M: Drop> Outlet<M> {
 
     /// Returns a further sender of the channel. Fails only if the count of owners cannot grow.
     pub fn try_clone<R: Host>(&mut self, rt: &R) -> Result<Sender<M, UnparkHandle>, AllocError>
-        ensures kept { KeepsAll self.old self.new }
+        ensures same { IsPair self.new.sender self.old.sender }
+        ensures passed { passed self.new ≡ passed self.old }
         ensures further { IfOk result (λ sender. IsPair sender self.old.sender × (sent_by sender ≡ [])) }
+        ensures shares { IfOk result (λ sender. (shares_of self.new.sender ≡ shares_kept (shares_of self.old.sender)) × (shares_of sender ≡ shares_given (shares_of self.old.sender))) }
     {
         self.sender.try_clone(rt)
+    }
+
+    /// Returns whether each message that the outlet was given was sent.
+    pub fn is_empty(&self) -> bool
+        ensures { result ≡ true → self.now.message ≡ None }
+    {
+        self.message.is_none()
+    }
+
+    /// Returns the sender. A message that was not sent is dropped.
+    pub fn into_sender(self) -> Sender<M, UnparkHandle>
+        ensures { result ≡ self.sender }
+    {
+        let Outlet { sender, message: _ } = self;
+        sender
     }
 
     /// Gives the outlet its next message.
     pub fn put(&mut self, message: M)
         requires { self.old.message ≡ None }
-        ensures same { IsPair self.new.sender self.old.sender }
+        ensures same { Stays self.old.sender self.new.sender }
         ensures passed { passed self.new ≡ passed self.old ++ message ∷ [] }
     {
         self.message = Some(message);

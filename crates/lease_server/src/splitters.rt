@@ -29,13 +29,26 @@ pub struct Splitter {
 impl Splitter {
     /// Returns the splitter of a text of which nothing was read. It reads into this buffer.
     pub fn new(buffer: Vec<u8>, dispatcher: Dispatcher) -> Splitter
-        ensures { Holds [] dispatcher → Stands [] result }
+        ensures stands { Holds [] dispatcher → Stands [] result }
+        ensures dispatcher { result.dispatcher ≡ dispatcher }
     {
         Splitter {
             block: Block::new(buffer),
             is_long: false,
             dispatcher,
         }
+    }
+
+    /// Returns the dispatcher.
+    pub fn into_dispatcher(self) -> Dispatcher
+        ensures { result ≡ self.dispatcher }
+    {
+        let Splitter {
+            block: _,
+            is_long: _,
+            dispatcher,
+        } = self;
+        dispatcher
     }
 
     // Returns the length of the line at the front of the block's rest, if it has a line feed.

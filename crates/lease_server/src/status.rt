@@ -1,4 +1,5 @@
 // The statuses with which the program and its threads end.
+ghost use Rattle.std.specs.Prelude.{◌≡◌};
 
 /// Each line was answered.
 pub const DONE: u64 = 0;
@@ -12,11 +13,15 @@ pub const WRITE: u64 = 5;
 pub const MEMORY: u64 = 6;
 
 /// Returns the first of two statuses that is not `DONE`.
-pub fn worse(one: u64, two: u64) -> u64 {
+pub fn worse(one: u64, two: u64) -> u64
+    ensures { result ≡ 0 → (one ≡ 0) × (two ≡ 0) }
+{
     if one == DONE { two } else { one }
 }
 
 /// Returns the exit status of the program.
-pub fn code(status: u64) -> u8 {
+pub fn code(status: u64) -> u8
+    ensures { result ≡ 0 → status ≡ 0 }
+{
     u8::try_from(status).unwrap_or(u8::MAX)
 }

@@ -1,4 +1,6 @@
 // The words of the command line.
+ghost use Rattle.std.specs.Prelude.{◌<◌, ◌≤◌};
+
 use lease_core::Sizes;
 use mono_text::whole_number;
 use std::alloc::{AllocError, Global};
@@ -12,6 +14,7 @@ pub struct Settings {
     pub cores: u64,
     pub sizes: Sizes,
     pub is_still: bool,
+    pub ghost has_cores: { (0 < cores) × (cores ≤ 64) },
 }
 
 // Returns the numbers of these words, or None if one is no number.

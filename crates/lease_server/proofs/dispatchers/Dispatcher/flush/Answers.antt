@@ -15,7 +15,7 @@ returns-in_err-flush_all-clause-ways g c =
     let ws : List Lane = c.flush_all.new.lanes in
     let items : (with_items old.lanes ws).items ≡ ws = with_items_is old.lanes ws (omega arith) in
     let new : Dispatcher = record { lanes = with_items old.lanes ws; refusals = old.refusals; last = old.last } in
-    keeps_both old new c.deref_mut.result.now ws c.deref_mut.ensures.value items c.flush_all.ensures.ways refl
+    keeps_both old new c.deref_mut.result.now ws c.deref_mut.ensures.value items c.flush_all.ensures.ways (refl, refl)
 
 pub returns-then-not-branch-clause-ways : goal.returns-then-not-branch-clause-ways
 returns-then-not-branch-clause-ways g c =
@@ -23,7 +23,7 @@ returns-then-not-branch-clause-ways g c =
     let ws : List Lane = c.flush_all.new.lanes in
     let items : (with_items old.lanes ws).items ≡ ws = with_items_is old.lanes ws (omega arith) in
     let new : Dispatcher = record { lanes = with_items old.lanes ws; refusals = old.refusals; last = old.last } in
-    keeps_both old new c.deref_mut.result.now ws c.deref_mut.ensures.value items c.flush_all.ensures.ways refl
+    keeps_both old new c.deref_mut.result.now ws c.deref_mut.ensures.value items c.flush_all.ensures.ways (refl, refl)
 
 pub returns-clause-ways : goal.returns-clause-ways
 returns-clause-ways g c =

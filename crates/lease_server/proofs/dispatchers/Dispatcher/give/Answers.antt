@@ -15,7 +15,7 @@ returns-in_err-route-clause-ways c =
     let ws : List Lane = c.route.new.lanes in
     let items : (with_items old.lanes ws).items ≡ ws = with_items_is old.lanes ws (omega arith) in
     let new : Dispatcher = record { lanes = with_items old.lanes ws; refusals = old.refusals; last = old.last } in
-    keeps_both old new c.deref_mut.result.now ws c.deref_mut.ensures.value items c.route.ensures.ways refl
+    keeps_both old new c.deref_mut.result.now ws c.deref_mut.ensures.value items c.route.ensures.ways (refl, refl)
 
 pub returns-clause-ways : goal.returns-clause-ways
 returns-clause-ways c =
@@ -23,7 +23,7 @@ returns-clause-ways c =
     let ws : List Lane = c.route.new.lanes in
     let items : (with_items old.lanes ws).items ≡ ws = with_items_is old.lanes ws (omega arith) in
     let new : Dispatcher = record { lanes = with_items old.lanes ws; refusals = old.refusals; last = c.args.number } in
-    keeps_both old new c.deref_mut.result.now ws c.deref_mut.ensures.value items c.route.ensures.ways refl
+    keeps_both old new c.deref_mut.result.now ws c.deref_mut.ensures.value items c.route.ensures.ways (refl, refl)
 
 pub returns-clause-ok : goal.returns-clause-ok
 returns-clause-ok c = λ asked h.

@@ -1,0 +1,79 @@
+-- What the server does from the bytes that it reads to the bytes that it writes.
+use Rattle.std.specs.Prelude.{◌≡◌, ◌+◌, ◌<◌, ◌≤◌, ℕ, List, [], ◌∷◌, ◌++◌, map, length, Option, Some}
+use Rattle.mono_model.specs.Valid.{times}
+use Rattle.mono_text.specs.Lines.{lines}
+use Rattle.mono_text.specs.Environment.{HasReadAll, HasWritten, HasWrittenPrefix}
+use Rattle.mono_channel.specs.Delivery.{Interleaves}
+use Rattle.mono_session.specs.Keeper.{owner_answer}
+use Rattle.lease_core.specs.declared.requests.Request.{Request}
+use Rattle.lease_core.specs.declared.requests.Reply.{Reply}
+use Rattle.lease_core.specs.declared.sizes.Sizes.{Sizes}
+use Rattle.lease_core.specs.Cores.{CoreState, new_core}
+use Rattle.lease_core.specs.Steps.{Event, Advance, Handle, Finish, Run}
+use Rattle.lease_server.specs.Routing.{Ask, routed, refused}
+use Rattle.lease_server.specs.Answers.{number_of, answer_lines, by_core, refusals_of}
+use Rattle.lease_server.specs.declared.answers.Answer.{Answer}
+
+-- The requests among a core's events, in order.
+abbrev pub requests_in : List Event → List Request
+requests_in [] = []
+requests_in (Advance n ∷ events) = requests_in events
+requests_in (Handle request ∷ events) = request ∷ requests_in events
+requests_in (Finish ∷ events) = requests_in events
+
+-- One run of the model from a new core answers these requests, in order, with these replies. Its last event is the end of the
+-- input.
+pub record RunsThrough (sizes : Sizes) (requests : List Request) (replies : List Reply) : Type 0 where
+  pub before : List Event
+  pub last : CoreState
+  pub run : Run (new_core sizes) (before ++ Finish ∷ []) replies last
+  pub asked : requests_in before ≡ requests
+
+-- The core of this number did one run of the model from a new core. Its requests are a beginning of these, and these answers
+-- are a beginning of its replies.
+pub record RunsPart (number : ℕ) (sizes : Sizes) (requests : List Request) (said : List Answer) : Type 0 where
+  pub events : List Event
+  pub replies : List Reply
+  pub last : CoreState
+  pub run : Run (new_core sizes) events replies last
+  pub unasked : List Request
+  pub asked : requests ≡ requests_in events ++ unasked
+  pub unsaid : List Answer
+  pub answered : by_core number replies ≡ said ++ unsaid
+
+-- The answers of each core, from core k on, are the replies of one run. The requests of the run are those of the core's keys.
+abbrev pub EachRuns : ℕ → ℕ → Sizes → List (Option Request) → List (List Answer) → Type 0
+EachRuns k cores sizes asked [] = k ≡ cores
+EachRuns k cores sizes asked (answers ∷ others) =
+    ((replies : List Reply) × RunsThrough sizes (routed k cores asked) replies × (answers ≡ by_core k replies)) × EachRuns (k + 1) cores sizes asked others
+
+-- The output has one line for each answer. The answers interleave the refusals of the lines that ask nothing and the replies of
+-- the cores. Each core's replies are those of one run of its model from a new core. The requests of that run are exactly those
+-- of the lines whose key has that core, in order, each with its line's number.
+pub record ServesAll (cores : ℕ) (sizes : Sizes) (input output : List ℕ) : Type 0 where
+  pub asked : List (Option Request)
+  pub asks : Ask 1 (lines input) asked
+  pub each : List (List Answer)
+  pub runs : EachRuns 0 cores sizes asked each
+  pub answers : List Answer
+  pub interleave : Interleaves (refusals_of (refused 1 asked) ∷ each) answers
+  pub written : output ≡ answer_lines answers
+
+-- The input is all that the source had left, and was read. The output that serves it was written to the sink.
+abbrev pub HasServed : ℕ → Sizes → Option (List ℕ) → Option (List ℕ) → Option (List ℕ) → Option (List ℕ) → Type 0
+HasServed cores sizes left rest before after = (input : List ℕ) × (output : List ℕ) × HasReadAll left input rest × HasWritten before after output × ServesAll cores sizes input output
+
+-- The lines of some answers were written, or a beginning of them: all lines but the last are whole.
+abbrev pub WritesAnswers : Option (List ℕ) → Option (List ℕ) → Type 0
+WritesAnswers before after = (answers : List Answer) × HasWrittenPrefix before after (answer_lines answers)
+
+-- Each line of the input is answered exactly once, by its number, and nothing else is answered.
+abbrev pub AnswersEachLineOnce : Type 0
+AnswersEachLineOnce = (cores : ℕ) (sizes : Sizes) (input output : List ℕ) → 0 < cores → (s : ServesAll cores sizes input output) → (i : ℕ)
+    → (0 < i → i ≤ length (lines input) → times (map number_of s.answers) i ≡ 1) × (i ≡ 0 → times (map number_of s.answers) i ≡ 0) × (length (lines input) < i → times (map number_of s.answers) i ≡ 0)
+
+-- At any moments of the runs of two cores, sessions of one core alone hold the lock of a key.
+abbrev pub OneCoreHolds : Type 0
+OneCoreHolds = (cores i j : ℕ) (sizes : Sizes) (asked : List (Option Request)) (events more others further : List Event) (replies other_replies : List Reply) (one other : CoreState) (key s t : ℕ)
+    → requests_in (events ++ more) ≡ routed i cores asked → requests_in (others ++ further) ≡ routed j cores asked → Run (new_core sizes) events replies one → Run (new_core sizes) others other_replies other
+    → owner_answer one.keeper key ≡ Some s → owner_answer other.keeper key ≡ Some t → i ≡ j
