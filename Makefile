@@ -54,7 +54,7 @@ has-rustc:
 	@command -v rustc > /dev/null || { echo 'rustc is missing: it builds the plain Rust programs of tools/bench'; exit 1; }
 
 test: has-rt
-	@! command -v python3 > /dev/null || python3 tools/sections.py
+	@! command -v python3 > /dev/null || { python3 tools/sections.py && python3 tools/calls.py --check; }
 	rt ci
 
 examples: build
