@@ -21,6 +21,8 @@ FORMS = (
 )
 
 POLLS = r"\.poll\(rt,|\bTaskFuture::<\w+>::poll\("
+# polls a future in the expression that makes it: it borrows an end of a channel, and nothing of it is left
+POLLS_AT_ONCE = r"\.(send|recv)\([^()]*\)\.poll\(rt,"
 
 # what a crate makes, how its code has it, and the calls of which one gives it up
 MADE = [
@@ -53,7 +55,7 @@ def code(crate):
     for path in sorted(glob.glob(os.path.join(crate, "src", "**", "*.rt"), recursive=True)):
         with open(path, encoding="utf-8") as file:
             text += "".join(line.split("//")[0].strip() + " " for line in file)
-    return text
+    return re.sub(POLLS_AT_ONCE, " ", text)
 
 
 def block(text, start):
