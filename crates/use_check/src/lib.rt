@@ -1,8 +1,15 @@
-//! The checker accepts the executor's reports.
+//! The checker accepts the executor's reports, and the journals of a runtime.
 #![tactic(auto)]
+
+mod calls;
+mod laws;
 
 ghost use Rattle.std.specs.Prelude.{◌≡◌, IfOk};
 
+pub use calls::{checked_text, one_more_call};
+pub use laws::{
+    example_journals, shown_readings_are_in_range, whole_answers_are_yes, whole_calls_pass,
+};
 use mono_machine::{Blocking, Event, Limits};
 use mono_trace::{Verdict, check};
 use std::alloc::{AllocError, Global};
