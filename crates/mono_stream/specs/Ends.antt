@@ -1,5 +1,5 @@
 -- Definitions for a stream's answers.
-use Rattle.std.specs.Prelude.{⊤, Bool, true, false, Option, Some, None}
+use Rattle.std.specs.Prelude.{◌≡◌, ◌⊎◌, ⊤, ℕ, Bool, true, false, Option, Some, None}
 use Rattle.mono_model.specs.declared.poll.Poll.{Poll}
 use Rattle.mono_stream.specs.declared.for_each.Stop.{Stop}
 use Rattle.mono_stream.specs.declared.for_each.Stop.TheVariants.{Ended, Waits, Many}
@@ -22,3 +22,7 @@ abbrev pub is_last : {X : Type 0} → Poll (Option X) → Bool
 is_last (Ready (Some x)) = false
 is_last (Ready None) = true
 is_last Pending = false
+
+-- A hint that bounds nothing, or one of these.
+abbrev pub IsHint : (ℕ × Option ℕ → Type 0) → ℕ × Option ℕ → Type 0
+IsHint hints hint = (hint ≡ (0, None)) ⊎ hints hint

@@ -7,3 +7,16 @@ pub mod ForEaches
 pub mod Items
 pub mod Examples
 pub mod Spent
+pub mod Sifts
+pub mod Sieves
+pub mod Sides
+pub mod Appends
+pub mod Merges
+pub mod Zips
+pub mod Folds
+pub mod Collects
+pub mod SiftedItems
+pub mod JoinedItems
+pub mod GatheredItems
+pub mod FutureOutputs
+pub mod Unfolds

@@ -1,5 +1,5 @@
 // A stream through a reference.
-ghost use Rattle.std.specs.Prelude.{◌≡◌, None};
+ghost use Rattle.std.specs.Prelude.{◌≡◌};
 
 use crate::streams::Stream;
 use mono_model::{Host, Poll};
@@ -18,10 +18,6 @@ impl<C: Context, S: Stream<C>> Stream<C> for &mut S {
 
     fn poll_next<R: Host>(&mut self, rt: &R, alloc: Global, cx: &mut C) -> Poll<Option<S::Item>> {
         (**self).poll_next(rt, alloc, cx)
-    }
-
-    fn size_hint(&self) -> (usize, Option<usize>) {
-        (0, None)
     }
 
     fn cancel(self, _cx: &mut C) {}

@@ -78,10 +78,6 @@ where
         }
     }
 
-    fn size_hint(&self) -> (usize, Option<usize>) {
-        (0, None)
-    }
-
     // Gives up the future that was made first, and then the stream.
     fn cancel(self, cx: &mut C) {
         let Then { stream, f: _, made } = self;

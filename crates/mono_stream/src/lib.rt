@@ -1,23 +1,58 @@
 //! Streams of items that are polled on a context: of an iterator, mapped, handled by futures.
 #![tactic(auto)]
 
+mod appends;
 mod by_reference;
 mod chains;
+mod collects;
+mod counts;
 mod extend;
+mod filters;
+mod folds;
 mod for_each;
+mod future_outputs;
+pub mod gathered_laws;
 mod iterate;
+pub mod joined_laws;
 pub mod laws;
+mod makers;
 mod maps;
+mod merges;
 mod next;
 mod of_iterator;
 pub mod rows;
+mod scans;
+mod sides;
+mod sieves;
+pub mod sifted_laws;
+mod sifts;
+mod skips;
 mod streams;
+mod takes;
+mod unfolds;
+mod zips;
 
+pub use appends::Chain;
 pub use chains::Then;
+pub use collects::{Collect, Uncollected};
+pub use counts::{Enumerate, Enumerating};
 pub use extend::StreamExt;
+pub use filters::{Filter, FilterMap, FilterMapping, Filtering};
+pub use folds::Fold;
 pub use for_each::ForEach;
+pub use future_outputs::Outputs;
 pub use iterate::Iter;
+pub use makers::{outputs, unfold};
 pub use maps::Map;
+pub use merges::Merge;
 pub use next::Next;
 pub use of_iterator::iter;
+pub use scans::{Scan, Scanning};
+pub use sides::Fuse;
+pub use sieves::Sieve;
+pub use sifts::Sifted;
+pub use skips::{Skip, SkipWhile, Skipping, SkippingWhile};
 pub use streams::Stream;
+pub use takes::{Take, TakeWhile, Taking, TakingWhile};
+pub use unfolds::Unfold;
+pub use zips::Zip;

@@ -38,10 +38,6 @@ where
         }
     }
 
-    fn size_hint(&self) -> (usize, Option<usize>) {
-        (0, None)
-    }
-
     fn cancel(self, cx: &mut C) {
         let Map { stream, f: _ } = self;
         stream.cancel(cx);

@@ -1,7 +1,7 @@
 // A stream of items, polled on a context.
 ghost use Rattle.std.specs.Prelude.{◌≡◌, ⊤, ℕ, Option, None};
 ghost use Rattle.mono_model.specs.declared.poll.Poll.{Poll};
-ghost use Rattle.mono_stream.specs.Ends.{UnlessEnded};
+ghost use Rattle.mono_stream.specs.Ends.{UnlessEnded, IsHint};
 
 use mono_model::{Host, Poll};
 use mono_task::Context;
@@ -39,7 +39,10 @@ pub trait Stream<C: Context>: Drop {
 
     /// Returns bounds on the number of remaining items; `(0, None)` if the stream knows no more.
     fn size_hint(&self) -> (usize, Option<usize>)
-        ensures { hints self.now result };
+        ensures { IsHint (hints self.now) result }
+    {
+        (0, None)
+    }
 
     /// Gives up the stream, with its sleeps and join handles in the context.
     fn cancel(self, cx: &mut C)

@@ -29,6 +29,8 @@ mod nests;
 #[cfg(test)]
 mod pulses;
 #[cfg(test)]
+mod stream_adapters;
+#[cfg(test)]
 mod streams;
 #[cfg(test)]
 mod tables;

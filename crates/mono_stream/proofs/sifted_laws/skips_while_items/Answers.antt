@@ -1,0 +1,6 @@
+use Rattle.mono_stream.proofs.SiftedLemmas.{sifts_items}
+use Rattle.mono_stream.proofs.SieveLemmas.{skips_while_items}
+use Rattle.mono_stream.proofs.sifted_laws.skips_while_items.Goals as goal
+
+pub returns : goal.returns
+returns g c = λ test answers n old ys has_ended new given. skips_while_items g.F.FnMut test answers g.S.Stream.polls old ys has_ended new (sifts_items g.S.Stream.polls _ _ g.C.Context.number g.C.Context.wakes n old ys has_ended new given)

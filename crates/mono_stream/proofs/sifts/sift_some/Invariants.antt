@@ -1,0 +1,13 @@
+use Rattle.std.proofs.Common.{◌+◌, ℕ}
+use Rattle.mono_stream.specs.Sifts.{Passes}
+use Rattle.mono_stream.proofs.sifts.sift_some.Given as goal
+
+-- the items that are still to be passed over go on from those that were
+abbrev pub invariant-loop-i : goal.invariant-loop-i
+invariant-loop-i g l = record {
+  passed : (n : ℕ) (t : _) (w : _) (d : _) → Passes g.S.Stream.polls g.V.Sieve.done g.V.Sieve.sifts n l.stream l.sieve l.cx t w d
+      → Passes g.S.Stream.polls g.V.Sieve.done g.V.Sieve.sifts (l._i + n) l.initial.stream l.initial.sieve l.initial.cx t w d;
+  callable : g.S.Stream.can_poll l.stream;
+  able : g.V.Sieve.can_sift l.sieve;
+  reached : g.C.Context.reaches l.initial.cx l.cx;
+}
