@@ -4,6 +4,7 @@ pub mod Ends
 pub mod Errors
 pub mod Gates
 pub mod Messages
+pub mod Owned
 pub mod Polls
 pub mod Queues
 pub mod Seats

@@ -59,7 +59,7 @@ impl<T: Drop, U: Unpark> Receiver<T, U> {
     }
 
     // Takes the first message, or waits for one with the running task's waker.
-    fn poll_in<C: RemoteContext<U>, R: Host>(
+    pub(crate) fn poll_in<C: RemoteContext<U>, R: Host>(
         &mut self,
         rt: &R,
         cx: &mut C,
@@ -96,7 +96,7 @@ impl<T: Drop, U: Unpark> Sender<T, U> {
 
     // Sends the message, or keeps it and waits with the running task's waker.
     #[tactic(auto, using(crate::proofs::PollLemmas::on_pending))]
-    fn poll_in<C: RemoteContext<U>, R: Host>(
+    pub(crate) fn poll_in<C: RemoteContext<U>, R: Host>(
         &mut self,
         rt: &R,
         cx: &mut C,

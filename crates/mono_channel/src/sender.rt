@@ -57,11 +57,13 @@ impl<T: Drop, U: Unpark> Sender<T, U> {
         }
     }
 
-    /// Returns a further sender of the channel. Fails only if the count of owners cannot grow.
+    /// Returns a further sender of the channel. Fails only if the count of owners cannot grow: then this one keeps its
+    /// shares.
     pub fn try_clone<R: Host>(&mut self, rt: &R) -> Result<Sender<T, U>, AllocError>
         ensures same { IsPair self.new self.old × (sent_by self.new ≡ sent_by self.old) }
         ensures further { IfOk result (λ s. IsPair s self.old × (sent_by s ≡ [])) }
         ensures shares { IfOk result (λ s. (shares_of self.new ≡ shares_kept (shares_of self.old)) × (shares_of s ≡ shares_given (shares_of self.old))) }
+        ensures none { IfErr result (λ e. shares_of self.new ≡ shares_of self.old) }
     {
         let shared = Arc::try_clone(&self.shared)?;
         let end = self.shared.queue.another::<Joins>(&mut self.end);

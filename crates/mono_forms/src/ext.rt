@@ -23,8 +23,9 @@ use mono_combine::{
     Join2, JoinList, MaybeDone, PollFn, Select2, SelectList, TryJoin2, TryJoinList,
 };
 use mono_inbox::Unpark;
-use mono_stream::{ForEach, Next};
-use mono_sync::{Acquire, Notified, mpsc, oneshot, watch};
+use mono_stream::{Collect, Fold, ForEach, Next};
+use mono_sync::acts::AtOnce;
+use mono_sync::{Acquire, AcquireAt, Notified, NotifiedAt, mpsc, oneshot, watch};
 use mono_task::JoinHandle;
 use mono_time::{Sleep, SleepFor, Tick, Timeout, TimeoutFor};
 use std::alloc::{AllocFailed, Global};
@@ -243,13 +244,27 @@ impl<S> FutureExt for Next<'_, S> {}
 
 impl<S, F, Fut> FutureExt for ForEach<S, F, Fut> {}
 
+impl<S, T, F> FutureExt for Fold<S, T, F> {}
+
+impl<S, X> FutureExt for Collect<S, X> {}
+
 impl<W> FutureExt for Acquire<W> {}
 
+impl<W> FutureExt for AcquireAt<W> {}
+
+impl<W, A> FutureExt for AtOnce<W, A> {}
+
 impl<W> FutureExt for Notified<W> {}
+
+impl<W> FutureExt for NotifiedAt<W> {}
 
 impl<W, T> FutureExt for mpsc::Send<W, T> {}
 
 impl<W, T> FutureExt for mpsc::Recv<W, T> {}
+
+impl<W, T> FutureExt for mpsc::SendAt<W, T> {}
+
+impl<W, T> FutureExt for mpsc::RecvAt<W, T> {}
 
 impl<W, T> FutureExt for oneshot::Recv<W, T> {}
 
@@ -257,6 +272,12 @@ impl<W, T> FutureExt for oneshot::RecvAt<W, T> {}
 
 impl<W, T> FutureExt for watch::Changed<W, T> {}
 
+impl<W, T> FutureExt for watch::ChangedAt<W, T> {}
+
 impl<T: Drop, U: Unpark> FutureExt for mono_channel::Recv<'_, T, U> {}
 
 impl<T: Drop, U: Unpark> FutureExt for mono_channel::Send<'_, T, U> {}
+
+impl<T: Drop, U: Unpark> FutureExt for mono_channel::IntoRecv<T, U> {}
+
+impl<T: Drop, U: Unpark> FutureExt for mono_channel::IntoSend<T, U> {}

@@ -22,8 +22,8 @@ pub(crate) const BUDGET: u64 = 128;
 /// One future after another, until one ends the loop. A closure makes each of them from the state that the future
 /// before asked for.
 ///
-/// A future that has answered is given up at once, and the same poll polls the next for the first time. After 128 turns
-/// in one poll the form wakes its own task and is pending.
+/// If a future asks for one more turn, the closure makes the next before the one that answered is given up. The same poll
+/// polls the next for the first time. After 128 turns in one poll the form wakes its own task and is pending.
 #[derive(Drop)]
 pub struct Repeat<A, F> {
     pub(crate) future: Option<A>,

@@ -23,3 +23,7 @@ mod TouchedLemmas
 mod ManyLemmas
 mod MadeLemmas
 mod EmptyLineLemmas
+pub mod KeyedMessageLemmas
+pub mod OvertakeLemmas
+pub mod CoverLemmas
+pub mod PassLemmas

@@ -1,5 +1,5 @@
 -- Tickets rise along a line.
-use Rattle.std.proofs.Common.{◌≡◌, ◌==◌, ◌&&◌, ◌+◌, ◌<◌, ◌≤◌, ℕ, Bool, true, false, not, cond, MatchBool, List, [], ◌∷◌, ◌++◌, Option, Some, None, Ok, Err, refl, sym, ap, subst, arith}
+use Rattle.std.proofs.Common.{◌≡◌, ◌==◌, ◌&&◌, ◌+◌, ◌<◌, ◌≤◌, ℕ, Bool, true, false, not, cond, MatchBool, List, [], ◌∷◌, ◌++◌, Option, Some, None, Ok, Err, refl, sym, ap, subst, nat_lt, arith}
 use Rattle.mono_sync.specs.declared.lines.Waiter.{Waiter}
 use Rattle.mono_sync.specs.declared.lines.Line.{Line}
 use Rattle.mono_sync.specs.declared.lines.Coming.{Coming}
@@ -7,7 +7,7 @@ use Rattle.mono_sync.specs.declared.lines.Coming.TheVariants.{Waits, Free, Full}
 use Rattle.mono_sync.specs.declared.semaphores.Semaphore.{Semaphore}
 use Rattle.mono_sync.specs.declared.semaphores.TryAcquireError.TheVariants.{NoPermits, Closed}
 use Rattle.mono_sync.specs.declared.semaphores.Acquiring.TheVariants as acquiring
-use Rattle.mono_sync.specs.Lines.{without, marked, holder_of, HasRoom, Marks, Comes, ComesOf, Leaves, LeavesOf, Joins, SameLine, Takes}
+use Rattle.mono_sync.specs.Lines.{without, marked, holder_of, Fits, Collects, HasRoom, Marks, Comes, ComesOf, Leaves, LeavesOf, Joins, SameLine, Takes}
 use Rattle.mono_sync.specs.SemaphoreRuns.{Event, tried, asked, released, gave_up, closed, served, Step, Run}
 use Rattle.mono_sync.specs.Laws.{Rises, FirstComeFirstServed}
 use Rattle.mono_sync.proofs.WaitLemmas.{same}
@@ -57,16 +57,24 @@ module _ (a b : Line) (k me : ℕ) (rising : Rising a) where
   comes_if room r u true p = kept_line a b p.1 rising
   comes_if room r u false p = marks_rises a b k u p.1 rising
 
+  comes_gone : (room : ℕ) (r : Coming) (c : Bool) → MatchBool c (Fits b.granted room r × Collects a b) (HasRoom b room r × (b ≡ a)) → Rising b
+  comes_gone room r true p = along a.waiters.items b.waiters.items a.next b.next p.1.0 p.1.2 rising
+  comes_gone room r false p = kept_line a b p.1 rising
+
   comes_of : (room : ℕ) (r : Coming) (o : Option ℕ) → ComesOf o a k me room r b → Rising b
-  comes_of room r None p = along a.waiters.items b.waiters.items a.next b.next p.1.0 p.1.2 rising
+  comes_of room r None p = comes_gone room r (nat_lt k a.next) p
   comes_of room r (Some u) p = comes_if room r u (u == me) p
 
   leaves_if : (u : ℕ) (c : Bool) → MatchBool c ((b.waiters.items ≡ without a.waiters.items k me) × (b.granted ≡ a.granted) × (b.next ≡ a.next)) (Marks a k u b) → Rising b
   leaves_if u true p = along (without a.waiters.items k me) b.waiters.items a.next b.next p.0 p.2 (rises_without 0 a.waiters.items a.next k me rising)
   leaves_if u false p = marks_rises a b k u p rising
 
+  leaves_gone : (c : Bool) → MatchBool c (Collects a b) (b ≡ a) → Rising b
+  leaves_gone true p = along a.waiters.items b.waiters.items a.next b.next p.0 p.2 rising
+  leaves_gone false p = kept_line a b p rising
+
   leaves_of : (o : Option ℕ) → LeavesOf o a k me b → Rising b
-  leaves_of None p = along a.waiters.items b.waiters.items a.next b.next p.0 p.2 rising
+  leaves_of None p = leaves_gone (nat_lt k a.next) p
   leaves_of (Some u) p = leaves_if u (u == me) p
 
 pub comes_rises : (a b : Line) (ticket : Option ℕ) (me room : ℕ) (r : Coming) → Comes a ticket me room r b → Rising a → Rising b

@@ -7,7 +7,7 @@ use Rattle.mono_sync.specs.declared.notices.Notify.{Notify}
 use Rattle.mono_sync.specs.declared.notices.Notifying.{Notifying}
 use Rattle.mono_sync.specs.declared.notices.Notifying.TheVariants as notifying
 use Rattle.mono_sync.specs.Lines.{Pops, holder_of, starts_below}
-use Rattle.mono_sync.specs.Notices.{on_notice, owed_by, listed_by, NotifiesOne, Awaits, GivesUp, GivesUpOf, PaysOne, Pays}
+use Rattle.mono_sync.specs.Notices.{on_notice, owed_by, listed_by, NotifiesOne, AwaitsFirst, AwaitsAgain, Awaits, GivesUp, GivesUpOf, PaysOne, Pays}
 use Rattle.mono_sync.proofs.WaitLemmas.{LineKept, to_places, line_same, kept_same, kept_joined, kept_tail, comes_keeps, leaves_keeps, joins_keeps, rests_keeps}
 
 of_line : (me : ℕ) (a b : Notify) → LineKept me a.line b.line → Keeps listed_by me a b
@@ -16,23 +16,37 @@ of_line me a b kept = to_places me a.line.waiters.items b.line.waiters.items kep
 pub line_stays : (me : ℕ) (a b : Notify) → b.line ≡ a.line → Keeps listed_by me a b
 line_stays me a b same = of_line me a b (line_same me a.line b.line same)
 
-pub awaits_keeps : (a b : Notify) (ticket : Option ℕ) (me : ℕ) (r : Notifying) → Awaits a ticket me r b → Keeps listed_by me a b
-awaits_keeps a b (Some k) me notifying.Waits s = of_line me a b (comes_keeps a.line b.line (Some k) me 1 Waits s.0)
-awaits_keeps a b (Some k) me notifying.Notified s = elim s.0 [
+again_keeps : (a b : Notify) (k me : ℕ) (r : Notifying) → AwaitsAgain a k me r b → Keeps listed_by me a b
+again_keeps a b k me notifying.Waits s = of_line me a b (comes_keeps a.line b.line (Some k) me 1 Waits s.0)
+again_keeps a b k me notifying.Notified s = elim s.0 [
   | inl free ↦ of_line me a b (comes_keeps a.line b.line (Some k) me 1 Free free)
   | inr full ↦ of_line me a b (comes_keeps a.line b.line (Some k) me 1 Full full.0)
 ]
-awaits_keeps a b (Some k) me notifying.Memory s = of_line me a b (rests_keeps a.line s.0.0 b.line (Some k) me 1 Full s.0.1.0 s.0.1.2)
-awaits_keeps a b (Some k) me (notifying.Joined u) s = of_line me a b (joins_keeps a.line s.0.0 b.line (Some k) me 1 u Full s.0.1.0 s.0.1.2)
-awaits_keeps a b None me notifying.Waits s = absurd s
-awaits_keeps a b None me notifying.Notified s = line_stays me a b s.3
-awaits_keeps a b None me notifying.Memory s = of_line me a b (kept_same me a.line.waiters.items b.line.waiters.items s.1.0)
-awaits_keeps a b None me (notifying.Joined u) s = of_line me a b (kept_joined me a.line.waiters.items _ b.line.waiters.items s.1.1)
+again_keeps a b k me notifying.Memory s = of_line me a b (rests_keeps a.line s.0.0 b.line (Some k) me 1 Full s.0.1.0 s.0.1.2)
+again_keeps a b k me (notifying.Joined u) s = of_line me a b (joins_keeps a.line s.0.0 b.line (Some k) me 1 u Full s.0.1.0 s.0.1.2)
+
+first_keeps : (a b : Notify) (me : ℕ) (r : Notifying) → AwaitsFirst a me r b → Keeps listed_by me a b
+first_keeps a b me notifying.Waits s = absurd s
+first_keeps a b me notifying.Notified s = line_stays me a b s.3
+first_keeps a b me notifying.Memory s = of_line me a b (kept_same me a.line.waiters.items b.line.waiters.items s.1.0)
+first_keeps a b me (notifying.Joined u) s = of_line me a b (kept_joined me a.line.waiters.items _ b.line.waiters.items s.1.1)
+
+awaits_if : (a b : Notify) (k me : ℕ) (r : Notifying) (c : Bool) → MatchBool c (AwaitsAgain a k me r b) (AwaitsFirst a me r b) → Keeps listed_by me a b
+awaits_if a b k me r true s = again_keeps a b k me r s
+awaits_if a b k me r false s = first_keeps a b me r s
+
+pub awaits_keeps : (a b : Notify) (ticket : Option ℕ) (me : ℕ) (r : Notifying) → Awaits a ticket me r b → Keeps listed_by me a b
+awaits_keeps a b None me r s = first_keeps a b me r s
+awaits_keeps a b (Some k) me r s = awaits_if a b k me r (nat_lt k a.line.next) s
 
 module _ (a b : Notify) (k me : ℕ) where
-  absent_if : (c : Bool) → MatchBool c (b ≡ a) (NotifiesOne a b) → Keeps listed_by me a b
+  drawn_if : (c : Bool) → MatchBool c (NotifiesOne a b) (b ≡ a) → Keeps listed_by me a b
+  drawn_if true s = line_stays me a b s.1
+  drawn_if false s = line_stays me a b (ap (λ x. x.line) s)
+
+  absent_if : (c : Bool) → MatchBool c (b ≡ a) (MatchBool (nat_lt k a.line.next) (NotifiesOne a b) (b ≡ a)) → Keeps listed_by me a b
   absent_if true s = line_stays me a b (ap (λ x. x.line) s)
-  absent_if false s = line_stays me a b s.1
+  absent_if false s = drawn_if (nat_lt k a.line.next) s
 
   gives_up_of : (o : Option ℕ) → GivesUpOf o a k me b → Keeps listed_by me a b
   gives_up_of (Some t) s = of_line me a b (leaves_keeps a.line b.line (Some k) me s.0)

@@ -1,5 +1,5 @@
 -- A future that asks or leaves takes out its own ticket alone.
-use Rattle.std.proofs.Common.{◌≡◌, ◌==◌, ◌&&◌, ◌⊎◌, ℕ, Bool, true, false, not, cond, MatchBool, List, [], ◌∷◌, Option, Some, None, refl, sym, ap, subst, ◌∙◌, inl, inr}
+use Rattle.std.proofs.Common.{◌≡◌, ◌==◌, ◌&&◌, ◌⊎◌, ℕ, Bool, true, false, not, cond, MatchBool, List, [], ◌∷◌, Option, Some, None, refl, sym, ap, subst, ◌∙◌, nat_lt, inl, inr}
 use Rattle.mono_sync.specs.declared.lines.Waiter.{Waiter}
 use Rattle.mono_sync.specs.declared.lines.Line.{Line}
 use Rattle.mono_sync.specs.declared.lines.Coming.{Coming}
@@ -7,7 +7,7 @@ use Rattle.mono_sync.specs.declared.lines.Coming.TheVariants.{Waits, Free, Full}
 use Rattle.mono_sync.specs.declared.semaphores.Semaphore.{Semaphore}
 use Rattle.mono_sync.specs.declared.semaphores.Acquiring.{Acquiring}
 use Rattle.mono_sync.specs.declared.semaphores.Acquiring.TheVariants as acquiring
-use Rattle.mono_sync.specs.Lines.{waits_at, lists_at, holder_of, marked, without, HasRoom, Marks, Comes, ComesOf, Leaves, LeavesOf}
+use Rattle.mono_sync.specs.Lines.{waits_at, lists_at, holder_of, marked, without, Fits, Collects, HasRoom, Marks, Comes, ComesOf, Leaves, LeavesOf}
 use Rattle.mono_sync.specs.Semaphores.{Acquires}
 use Rattle.mono_sync.specs.WaitLaws.{IsPlaceOf, TakesOutItsOwn}
 use Rattle.mono_sync.proofs.WaitLemmas.{false-true, same, and_left, and_right, or_split, or_left, or_right, marks, appended}
@@ -26,8 +26,12 @@ module _ (a b : Line) (k me room : ℕ) where
   comes_if r u true holds p = all_same a.waiters.items b.waiters.items (ap (λ l. l.waiters.items) p.1)
   comes_if r u false holds p = all_marked k u a.waiters.items b.waiters.items holds p.1.0
 
+  comes_gone : (r : Coming) (c : Bool) → MatchBool c (Fits b.granted room r × Collects a b) (HasRoom b room r × (b ≡ a)) → AllIn a.waiters.items b.waiters.items
+  comes_gone r true p = all_same a.waiters.items b.waiters.items p.1.0
+  comes_gone r false p = all_same a.waiters.items b.waiters.items (ap (λ l. l.waiters.items) p.1)
+
   comes_of : (r : Coming) (o : Option ℕ) → holder_of a.waiters.items k ≡ o → ComesOf o a k me room r b → AllIn a.waiters.items b.waiters.items
-  comes_of r None holds p = all_same a.waiters.items b.waiters.items p.1.0
+  comes_of r None holds p = comes_gone r (nat_lt k a.next) p
   comes_of r (Some u) holds p = comes_if r u (u == me) holds p
 
 comes_all : (a b : Line) (ticket : Option ℕ) (me room : ℕ) (r : Coming) → Comes a ticket me room r b → AllIn a.waiters.items b.waiters.items
@@ -69,8 +73,12 @@ module _ (k₀ me : ℕ) where
     leaves_if u true holds p = subst (Own a.waiters.items) (sym p.0) (own_without a.waiters.items)
     leaves_if u false holds p = own_all a.waiters.items b.waiters.items (all_marked k₀ u a.waiters.items b.waiters.items holds p.0)
 
+    leaves_gone : (c : Bool) → MatchBool c (Collects a b) (b ≡ a) → Own a.waiters.items b.waiters.items
+    leaves_gone true p = own_all a.waiters.items b.waiters.items (all_same a.waiters.items b.waiters.items p.0)
+    leaves_gone false p = own_all a.waiters.items b.waiters.items (all_same a.waiters.items b.waiters.items (ap (λ l. l.waiters.items) p))
+
     leaves_of : (o : Option ℕ) → holder_of a.waiters.items k₀ ≡ o → LeavesOf o a k₀ me b → Own a.waiters.items b.waiters.items
-    leaves_of None holds p = own_all a.waiters.items b.waiters.items (all_same a.waiters.items b.waiters.items p.0)
+    leaves_of None holds p = leaves_gone (nat_lt k₀ a.next) p
     leaves_of (Some u) holds p = leaves_if u (u == me) holds p
 
   own_places : (ws us : List Waiter) → Own ws us → (p : List ℕ) (t : ℕ) → lists_at ws p t ≡ true → (lists_at us p t ≡ true) ⊎ ((t ≡ me) × (p ≡ k₀ ∷ []))

@@ -5,11 +5,12 @@ use Rattle.mono_sync.specs.declared.lines.Waiter.{Waiter}
 use Rattle.mono_sync.specs.declared.lines.Line.{Line}
 use Rattle.mono_sync.specs.declared.lines.Coming.TheVariants.{Waits, Free, Full}
 use Rattle.mono_sync.specs.declared.notices.Notify.{Notify}
+use Rattle.mono_sync.specs.declared.notices.Notifying.{Notifying}
 use Rattle.mono_sync.specs.declared.notices.Notifying.TheVariants as notifying
 use Rattle.mono_sync.specs.declared.watch.Watch.{Watch}
 use Rattle.mono_sync.specs.declared.watch.Changing.TheVariants as changing
 use Rattle.mono_sync.specs.Lines.{Pops, waits_at, below, tasks_of, holder_of, starts_below}
-use Rattle.mono_sync.specs.Notices.{on_notice, NotifiesOne, GivesUpOf, PaysOne}
+use Rattle.mono_sync.specs.Notices.{on_notice, NotifiesOne, AwaitsFirst, AwaitsAgain, GivesUpOf, PaysOne}
 use Rattle.mono_sync.specs.NoticeRuns as notices
 use Rattle.mono_sync.specs.WatchRuns as watches
 use Rattle.mono_sync.specs.Runs.{Run}
@@ -52,13 +53,17 @@ pops_rising a b None s r = kept_line a b s.1 r
 pops_rising a b (Some w) s r = popped_rising a b w s.0 s.2 r
 
 module _ (a b : Notify) where
-  absent_if : (c : Bool) → MatchBool c (b ≡ a) (NotifiesOne a b) → Rising a.line → Rising b.line
-  absent_if true s r = kept_line a.line b.line (ap (λ x. x.line) s) r
-  absent_if false s r = kept_line a.line b.line s.1 r
+  drawn_if : (c : Bool) → MatchBool c (NotifiesOne a b) (b ≡ a) → Rising a.line → Rising b.line
+  drawn_if true s r = kept_line a.line b.line s.1 r
+  drawn_if false s r = kept_line a.line b.line (ap (λ x. x.line) s) r
+
+  absent_if : (k : ℕ) (c : Bool) → MatchBool c (b ≡ a) (MatchBool (nat_lt k a.line.next) (NotifiesOne a b) (b ≡ a)) → Rising a.line → Rising b.line
+  absent_if k true s r = kept_line a.line b.line (ap (λ x. x.line) s) r
+  absent_if k false s r = drawn_if (nat_lt k a.line.next) s r
 
   gives_up_of : (k me : ℕ) (o : Option ℕ) → GivesUpOf o a k me b → Rising a.line → Rising b.line
   gives_up_of k me (Some t) s r = leaves_rises a.line b.line (Some k) me s.0 r
-  gives_up_of k me None s r = absent_if (nat_lt k a.cleared) s r
+  gives_up_of k me None s r = absent_if k (nat_lt k a.cleared) s r
 
   pays_one : (first : Option Waiter) → PaysOne a first b → Rising a.line → Rising b.line
   pays_one None s r = kept_line a.line b.line s.1 r
@@ -68,20 +73,30 @@ module _ (a b : Notify) where
   pays_if first true s r = pops_rising a.line b.line first s.0 r
   pays_if first false s r = pays_one first s r
 
-notice_step : (e : notices.Event) (a b : Notify) → Rising a.line → notices.Step a e b → Rising b.line
-notice_step notices.one a b r s = kept_line a.line b.line s.1 r
-notice_step notices.all a b r s = kept_line a.line b.line s.1 r
-notice_step (notices.asked (Some k) me notifying.Waits) a b r s = comes_rises a.line b.line (Some k) me 1 Waits s.0 r
-notice_step (notices.asked (Some k) me notifying.Notified) a b r s = elim s.0 [
+again_step : (a b : Notify) (k me : ℕ) (r : Notifying) → AwaitsAgain a k me r b → Rising a.line → Rising b.line
+again_step a b k me notifying.Waits s r = comes_rises a.line b.line (Some k) me 1 Waits s.0 r
+again_step a b k me notifying.Notified s r = elim s.0 [
   | inl free ↦ comes_rises a.line b.line (Some k) me 1 Free free r
   | inr full ↦ comes_rises a.line b.line (Some k) me 1 Full full.0 r
 ]
-notice_step (notices.asked (Some k) me notifying.Memory) a b r s = stays_rises a.line s.0.0 b.line (Some k) me 1 Full s.0.1.0 s.0.1.2 r
-notice_step (notices.asked (Some k) me (notifying.Joined u)) a b r s = joins_rises a.line s.0.0 b.line (Some k) me 1 u Full s.0.1.0 s.0.1.2 r
-notice_step (notices.asked None me notifying.Waits) a b r s = absurd s
-notice_step (notices.asked None me notifying.Notified) a b r s = kept_line a.line b.line s.3 r
-notice_step (notices.asked None me notifying.Memory) a b r s = rests_rises a.line b.line s.1 r
-notice_step (notices.asked None me (notifying.Joined u)) a b r s = joined_rises a.line b.line me u s.1 r
+again_step a b k me notifying.Memory s r = stays_rises a.line s.0.0 b.line (Some k) me 1 Full s.0.1.0 s.0.1.2 r
+again_step a b k me (notifying.Joined u) s r = joins_rises a.line s.0.0 b.line (Some k) me 1 u Full s.0.1.0 s.0.1.2 r
+
+first_step : (a b : Notify) (me : ℕ) (r : Notifying) → AwaitsFirst a me r b → Rising a.line → Rising b.line
+first_step a b me notifying.Waits s r = absurd s
+first_step a b me notifying.Notified s r = kept_line a.line b.line s.3 r
+first_step a b me notifying.Memory s r = rests_rises a.line b.line s.1 r
+first_step a b me (notifying.Joined u) s r = joined_rises a.line b.line me u s.1 r
+
+asked_if : (a b : Notify) (k me : ℕ) (x : Notifying) (c : Bool) → MatchBool c (AwaitsAgain a k me x b) (AwaitsFirst a me x b) → Rising a.line → Rising b.line
+asked_if a b k me x true s r = again_step a b k me x s r
+asked_if a b k me x false s r = first_step a b me x s r
+
+notice_step : (e : notices.Event) (a b : Notify) → Rising a.line → notices.Step a e b → Rising b.line
+notice_step notices.one a b r s = kept_line a.line b.line s.1 r
+notice_step notices.all a b r s = kept_line a.line b.line s.1 r
+notice_step (notices.asked (Some k) me x) a b r s = asked_if a b k me x (nat_lt k a.line.next) s r
+notice_step (notices.asked None me x) a b r s = first_step a b me x s r
 notice_step (notices.gave_up None me) a b r s = kept_line a.line b.line (ap (λ x. x.line) s) r
 notice_step (notices.gave_up (Some k) me) a b r s = gives_up_of a b k me (holder_of a.line.waiters.items k) s r
 notice_step (notices.served first) a b r s = pays_if a b first (starts_below a.cleared a.line.waiters.items) s.0 r

@@ -1,11 +1,11 @@
 -- Who stays in a line.
-use Rattle.std.proofs.Common.{◌≡◌, ◌==◌, ◌&&◌, ◌||◌, ◌⊎◌, ℕ, Bool, true, false, not, cond, MatchBool, List, [], ◌∷◌, ◌++◌, Option, Some, None, Ok, refl, sym, ap, subst, ◌∙◌, inl, inr}
+use Rattle.std.proofs.Common.{◌≡◌, ◌==◌, ◌&&◌, ◌||◌, ◌⊎◌, ℕ, Bool, true, false, not, cond, MatchBool, List, [], ◌∷◌, ◌++◌, Option, Some, None, Ok, refl, sym, ap, subst, ◌∙◌, nat_lt, inl, inr}
 use Rattle.std.proofs.lemmas.Bool.Decides.{eqb_tells}
 use Rattle.mono_sync.specs.declared.lines.Waiter.{Waiter}
 use Rattle.mono_sync.specs.declared.lines.Line.{Line}
 use Rattle.mono_sync.specs.declared.lines.Coming.{Coming}
 use Rattle.mono_sync.specs.declared.lines.Coming.TheVariants.{Waits}
-use Rattle.mono_sync.specs.Lines.{waits_at, lists_at, holder_of, marked, without, HasRoom, Marks, Comes, ComesOf, Leaves, LeavesOf, Joins, SameLine}
+use Rattle.mono_sync.specs.Lines.{waits_at, lists_at, holder_of, marked, without, Fits, Collects, HasRoom, Marks, Comes, ComesOf, Leaves, LeavesOf, Joins, SameLine}
 
 pub false-true : false ≡ true → ⊥
 false-true e = cc
@@ -107,16 +107,24 @@ module _ (a b : Line) (k me : ℕ) where
   comes_if room r u true holds p = kept_same me a.waiters.items b.waiters.items (ap (λ l. l.waiters.items) p.1)
   comes_if room r u false holds p = kept_marked k u me a.waiters.items b.waiters.items holds p.1.0
 
+  comes_gone : (room : ℕ) (r : Coming) (c : Bool) → MatchBool c (Fits b.granted room r × Collects a b) (HasRoom b room r × (b ≡ a)) → KeptIn me a.waiters.items b.waiters.items
+  comes_gone room r true p = kept_same me a.waiters.items b.waiters.items p.1.0
+  comes_gone room r false p = kept_same me a.waiters.items b.waiters.items (ap (λ l. l.waiters.items) p.1)
+
   comes_of : (room : ℕ) (r : Coming) (o : Option ℕ) → holder_of a.waiters.items k ≡ o → ComesOf o a k me room r b → KeptIn me a.waiters.items b.waiters.items
-  comes_of room r None holds p = kept_same me a.waiters.items b.waiters.items p.1.0
+  comes_of room r None holds p = comes_gone room r (nat_lt k a.next) p
   comes_of room r (Some u) holds p = comes_if room r u (u == me) holds p
 
   leaves_if : (u : ℕ) (c : Bool) → holder_of a.waiters.items k ≡ Some u → MatchBool c ((b.waiters.items ≡ without a.waiters.items k me) × (b.granted ≡ a.granted) × (b.next ≡ a.next)) (Marks a k u b) → KeptIn me a.waiters.items b.waiters.items
   leaves_if u true holds p = subst (λ us. KeptIn me a.waiters.items us) (sym p.0) (kept_without k me a.waiters.items)
   leaves_if u false holds p = kept_marked k u me a.waiters.items b.waiters.items holds p.0
 
+  leaves_gone : (c : Bool) → MatchBool c (Collects a b) (b ≡ a) → KeptIn me a.waiters.items b.waiters.items
+  leaves_gone true p = kept_same me a.waiters.items b.waiters.items p.0
+  leaves_gone false p = kept_same me a.waiters.items b.waiters.items (ap (λ l. l.waiters.items) p)
+
   leaves_of : (o : Option ℕ) → holder_of a.waiters.items k ≡ o → LeavesOf o a k me b → KeptIn me a.waiters.items b.waiters.items
-  leaves_of None holds p = kept_same me a.waiters.items b.waiters.items p.0
+  leaves_of None holds p = leaves_gone (nat_lt k a.next) p
   leaves_of (Some u) holds p = leaves_if u (u == me) holds p
 
 -- A line after a call keeps each task but one.

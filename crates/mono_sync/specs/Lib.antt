@@ -1,6 +1,9 @@
+pub mod Acts
 pub mod Lines
 pub mod Owing
 pub mod Parts
+pub mod Boths
+pub mod BothLends
 pub mod Listed
 pub mod Semaphores
 pub mod Mpsc
@@ -11,6 +14,7 @@ pub mod SemaphoreRuns
 pub mod MpscRuns
 pub mod Laws
 pub mod WaitLaws
+pub mod LineLaws
 pub mod Permits
 pub mod Messages
 pub mod Runs
@@ -28,3 +32,7 @@ pub mod PlaceLends
 pub mod ManyLends
 pub mod KeyedCalls
 pub mod KeyedDeliveries
+pub mod KeyedMessages
+pub mod KeyedPermits
+pub mod KeyedNotices
+pub mod KeyedChanges

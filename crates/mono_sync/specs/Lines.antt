@@ -76,9 +76,10 @@ Fits taken room Full = room ≤ taken
 abbrev pub HasRoom : Line → ℕ → Coming → Type 0
 HasRoom a room r = Fits (a.granted + length a.waiters.items) room r
 
--- A future asks by the task that waits with its ticket, if any.
+-- A future asks by the task that waits with its ticket, if any. If none does and the ticket was drawn, the future was served.
+-- A number that was never drawn is no ticket.
 abbrev pub ComesOf : Option ℕ → Line → ℕ → ℕ → ℕ → Coming → Line → Type 0
-ComesOf None a k me room r b = Fits b.granted room r × Collects a b
+ComesOf None a k me room r b = MatchBool (nat_lt k a.next) (Fits b.granted room r × Collects a b) (HasRoom b room r × (b ≡ a))
 ComesOf (Some t) a k me room r b = MatchBool (t == me) ((r ≡ Waits) × (b ≡ a)) (HasRoom b room r × Marks a k t b)
 
 -- A future of this task asks. It still waits, or was served and collects its grant, or does not wait.
@@ -87,10 +88,11 @@ Comes a None me room r b = HasRoom b room r × (b ≡ a)
 Comes a (Some k) me room r b = ComesOf (holder_of a.waiters.items k) a k me room r b
 
 abbrev pub LeavesOf : Option ℕ → Line → ℕ → ℕ → Line → Type 0
-LeavesOf None a k me b = Collects a b
+LeavesOf None a k me b = MatchBool (nat_lt k a.next) (Collects a b) (b ≡ a)
 LeavesOf (Some t) a k me b = MatchBool (t == me) ((b.waiters.items ≡ without a.waiters.items k me) × (b.granted ≡ a.granted) × (b.next ≡ a.next)) (Marks a k t b)
 
--- A future leaves in a turn of this task. If another task waits with its ticket, that one is woken in its turn.
+-- A future leaves in a turn of this task. If another task waits with its ticket, that one is woken in its turn. A number that
+-- was never drawn changes nothing.
 abbrev pub Leaves : Line → Option ℕ → ℕ → Line → Type 0
 Leaves a None me b = b ≡ a
 Leaves a (Some k) me b = LeavesOf (holder_of a.waiters.items k) a k me b

@@ -1,5 +1,6 @@
 -- Parts of one kind under keys: what each call does, and what the whole lists and owes.
-use Rattle.std.specs.Prelude.{⊤, Bool, true, false, ◌≡◌, ◌<◌, ◌⊎◌, ℕ, List, [], ◌∷◌, ◌++◌, map, length, Option, Some, None, Result, Ok, Err}
+use Rattle.std.specs.Prelude.{⊤, Bool, true, false, ◌≡◌, ◌==◌, ◌<◌, ◌⊎◌, ℕ, List, [], ◌∷◌, ◌++◌, map, length, Option, Some, None, Result, Ok, Err}
+use Rattle.std.specs.List.{list_any}
 use Rattle.mono_model.specs.Table.{Table, value_at, next_number, with_next, with_value, without}
 use Rattle.mono_task.specs.Owed.{Hands}
 use Rattle.mono_sync.specs.Touched.{Marks, IsMarked}
@@ -37,6 +38,10 @@ module _ {X : Type 0} (tasks : X → List ℕ) where
   abbrev pub tasks_each : Table X → List ℕ
   tasks_each [] = []
   tasks_each (x ∷ xs) = tasks_in x ++ tasks_each xs
+
+  -- Whether this task is one of them.
+  abbrev pub waits_each : Table X → ℕ → Bool
+  waits_each parts t = list_any (λ u. u == t) (tasks_each parts)
 
 module _ {X : Type 0} (waiting owes : X → List ℕ) where
   -- No task waits in the part, and none is owed a wake.

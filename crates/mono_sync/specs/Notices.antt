@@ -45,22 +45,31 @@ NotifiesAll a b = MatchBool (length a.line.waiters.items == 0) (b.pending ≡ a.
 abbrev pub KeepsNone : Notify → Type 0
 KeepsNone a = (a.pending ≡ 0) ⊎ (1 ≤ a.line.granted + length a.line.waiters.items)
 
--- A future of this task asks. It waits, or was notified, or takes the kept notice, or waits from now on.
+-- A future of this task asks with a ticket that it drew. It waits, or was notified, or waits from now on.
+abbrev pub AwaitsAgain : Notify → ℕ → ℕ → Notifying → Notify → Type 0
+AwaitsAgain a k me notifying.Waits b = Comes a.line (Some k) me 1 Waits b.line × Kept a b
+AwaitsAgain a k me notifying.Notified b = (Comes a.line (Some k) me 1 Free b.line ⊎ (Comes a.line (Some k) me 1 Full b.line × (k < a.cleared))) × Kept a b
+AwaitsAgain a k me notifying.Memory b = ((l : Line) × (Comes a.line (Some k) me 1 Full l × (a.cleared ≤ k) × SameLine l b.line)) × Kept a b
+AwaitsAgain a k me (notifying.Joined u) b = ((l : Line) × (Comes a.line (Some k) me 1 Full l × (a.cleared ≤ k) × Joins l me (Ok u) b.line)) × Kept a b
+
+-- A future of this task asks without a ticket. It takes the kept notice, or waits from now on.
+abbrev pub AwaitsFirst : Notify → ℕ → Notifying → Notify → Type 0
+AwaitsFirst a me notifying.Waits b = ⊥
+AwaitsFirst a me notifying.Notified b = (0 < a.pending) × (a.line.granted + length a.line.waiters.items ≡ 0) × (b.pending ≡ 0) × (b.line ≡ a.line) × (b.cleared ≡ a.cleared)
+AwaitsFirst a me notifying.Memory b = KeepsNone a × SameLine a.line b.line × Kept a b
+AwaitsFirst a me (notifying.Joined u) b = KeepsNone a × Joins a.line me (Ok u) b.line × Kept a b
+
+-- A future of this task asks. A number that was never drawn is no ticket.
 abbrev pub Awaits : Notify → Option ℕ → ℕ → Notifying → Notify → Type 0
-Awaits a (Some k) me notifying.Waits b = Comes a.line (Some k) me 1 Waits b.line × Kept a b
-Awaits a (Some k) me notifying.Notified b = (Comes a.line (Some k) me 1 Free b.line ⊎ (Comes a.line (Some k) me 1 Full b.line × (k < a.cleared))) × Kept a b
-Awaits a (Some k) me notifying.Memory b = ((l : Line) × (Comes a.line (Some k) me 1 Full l × (a.cleared ≤ k) × SameLine l b.line)) × Kept a b
-Awaits a (Some k) me (notifying.Joined u) b = ((l : Line) × (Comes a.line (Some k) me 1 Full l × (a.cleared ≤ k) × Joins l me (Ok u) b.line)) × Kept a b
-Awaits a None me notifying.Waits b = ⊥
-Awaits a None me notifying.Notified b = (0 < a.pending) × (a.line.granted + length a.line.waiters.items ≡ 0) × (b.pending ≡ 0) × (b.line ≡ a.line) × (b.cleared ≡ a.cleared)
-Awaits a None me notifying.Memory b = KeepsNone a × SameLine a.line b.line × Kept a b
-Awaits a None me (notifying.Joined u) b = KeepsNone a × Joins a.line me (Ok u) b.line × Kept a b
+Awaits a None me r b = AwaitsFirst a me r b
+Awaits a (Some k) me r b = MatchBool (nat_lt k a.line.next) (AwaitsAgain a k me r b) (AwaitsFirst a me r b)
 
 abbrev pub GivesUpOf : Option ℕ → Notify → ℕ → ℕ → Notify → Type 0
 GivesUpOf (Some t) a k me b = Leaves a.line (Some k) me b.line × Kept a b
-GivesUpOf None a k me b = MatchBool (nat_lt k a.cleared) (b ≡ a) (NotifiesOne a b)
+GivesUpOf None a k me b = MatchBool (nat_lt k a.cleared) (b ≡ a) (MatchBool (nat_lt k a.line.next) (NotifiesOne a b) (b ≡ a))
 
--- A future leaves the line, in a turn of this task. A future that was notified alone passes its notice on.
+-- A future leaves the line, in a turn of this task. A future that was notified alone passes its notice on. A number that was
+-- never drawn changes nothing.
 abbrev pub GivesUp : Notify → Option ℕ → ℕ → Notify → Type 0
 GivesUp a None me b = b ≡ a
 GivesUp a (Some k) me b = GivesUpOf (holder_of a.line.waiters.items k) a k me b

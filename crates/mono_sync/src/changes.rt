@@ -74,7 +74,7 @@ fn leave_part<W: Holds<Watch<T>>, T: Drop>(whole: &mut W, ticket: Option<u64>, m
 }
 
 // Replaces the value.
-fn send_part<W: Holds<Watch<T>>, T: Drop>(whole: &mut W, value: T) -> Result<T, T>
+pub(crate) fn send_part<W: Holds<Watch<T>>, T: Drop>(whole: &mut W, value: T) -> Result<T, T>
     ensures answer { Sends (W.part whole.old) value result (W.part whole.new) }
     ensures leads { W.leads whole.old whole.new }
     ensures keeps { (me : ℕ) → Keeps W.lists me whole.old whole.new }
@@ -83,7 +83,7 @@ fn send_part<W: Holds<Watch<T>>, T: Drop>(whole: &mut W, value: T) -> Result<T, 
 }
 
 // Closes the value.
-fn close_part<W: Holds<Watch<T>>, T: Drop>(whole: &mut W)
+pub(crate) fn close_part<W: Holds<Watch<T>>, T: Drop>(whole: &mut W)
     ensures answer { Closes (W.part whole.old) (W.part whole.new) }
     ensures leads { W.leads whole.old whole.new }
     ensures keeps { (me : ℕ) → Keeps W.lists me whole.old whole.new }

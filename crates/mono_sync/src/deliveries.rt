@@ -72,7 +72,7 @@ fn leave_part<W: Holds<Oneshot<T>>, T: Drop>(whole: &mut W, ticket: Option<u64>,
 }
 
 // Sends the message.
-fn send_part<W: Holds<Oneshot<T>>, T: Drop>(whole: &mut W, message: T) -> Result<(), T>
+pub(crate) fn send_part<W: Holds<Oneshot<T>>, T: Drop>(whole: &mut W, message: T) -> Result<(), T>
     ensures answer { Sends (W.part whole.old) message result (W.part whole.new) }
     ensures leads { W.leads whole.old whole.new }
     ensures keeps { (me : ℕ) → Keeps W.lists me whole.old whole.new }
@@ -81,7 +81,7 @@ fn send_part<W: Holds<Oneshot<T>>, T: Drop>(whole: &mut W, message: T) -> Result
 }
 
 // Closes the channel.
-fn close_part<W: Holds<Oneshot<T>>, T: Drop>(whole: &mut W)
+pub(crate) fn close_part<W: Holds<Oneshot<T>>, T: Drop>(whole: &mut W)
     ensures answer { Closes (W.part whole.old) (W.part whole.new) }
     ensures leads { W.leads whole.old whole.new }
     ensures keeps { (me : ℕ) → Keeps W.lists me whole.old whole.new }

@@ -175,7 +175,7 @@ fn drop_part<W: Holds<Many<Oneshot<T>>>, T: Drop>(
 }
 
 // Sends the message to the channel with this key, in the whole.
-fn send_part<W: Holds<Many<Oneshot<T>>>, T: Drop>(
+pub(crate) fn send_part<W: Holds<Many<Oneshot<T>>>, T: Drop>(
     whole: &mut W,
     key: u64,
     message: T,
@@ -188,7 +188,7 @@ fn send_part<W: Holds<Many<Oneshot<T>>>, T: Drop>(
 }
 
 // Closes the channel with this key, in the whole.
-fn close_part<W: Holds<Many<Oneshot<T>>>, T: Drop>(whole: &mut W, key: u64)
+pub(crate) fn close_part<W: Holds<Many<Oneshot<T>>>, T: Drop>(whole: &mut W, key: u64)
     ensures answer { ClosesAt key (W.part whole.old) (W.part whole.new) }
     ensures leads { W.leads whole.old whole.new }
     ensures keeps { (me : ℕ) → Keeps W.lists me whole.old whole.new }

@@ -1,6 +1,7 @@
 //! Laws that hold over any calls of channels, of a semaphore, of a notice and of a watched value.
 ghost use Rattle.mono_sync.specs.Laws.{PermitsAreKept, FirstComeFirstServed, ServedInOrder, InOrder, NothingAfterClose, StaysBounded, ReceivedOnce};
 ghost use Rattle.mono_sync.specs.WaitLaws.{PendingIsListed, PendingSenderIsListed, PendingReceiverIsListed, PendingDeliveryIsListed, PendingNoticeIsListed, PendingChangeIsListed, TakesOutItsOwn, NoPermitLiesIdle, NoMessageLiesIdle, NoDeliveryLiesIdle, NoNoticeLiesIdle, NoChangeLiesIdle};
+ghost use Rattle.mono_sync.specs.LineLaws.{NoTaskIsOvertaken, NoSenderIsOvertaken, WaitsIfReserved, WaitsIfPromised, PassesItsPermitOn, PassesItsPlaceOn, PassesItsNoticeOn, UndrawnIsNoTicket};
 
 /// Shows that the given permits are never more than those free at the start and those put back.
 pub fn permits_are_kept()
@@ -95,4 +96,44 @@ pub fn no_notice_lies_idle()
 /// Shows that while a task waits for another value and nothing is owed, none was sent since it came.
 pub fn no_change_lies_idle<T>()
     ensures { NoChangeLiesIdle T }
+{}
+
+/// Shows that a permit is taken at once only if each task that waits is owed one.
+pub fn no_task_is_overtaken()
+    ensures { NoTaskIsOvertaken }
+{}
+
+/// Shows that a message is sent or received at once only if each task that waits before it is owed its place or message.
+pub fn no_sender_is_overtaken<T>()
+    ensures { NoSenderIsOvertaken T }
+{}
+
+/// Shows that while a task waits for a permit and nothing is owed, each free permit is reserved, whatever is called.
+pub fn waits_if_reserved()
+    ensures { WaitsIfReserved }
+{}
+
+/// Shows that while a task waits at a channel and nothing is owed, each free place, or each message, is reserved.
+pub fn waits_if_promised<T>()
+    ensures { WaitsIfPromised T }
+{}
+
+/// Shows that if a future that was served is given up, its permit is owed to the first task that waits.
+pub fn a_permit_is_passed_on()
+    ensures { PassesItsPermitOn }
+{}
+
+/// Shows that if a future that was served is given up, its place or message is owed to the first task that waits.
+pub fn a_place_is_passed_on<T>()
+    ensures { PassesItsPlaceOn T }
+{}
+
+/// Shows that if a future that was notified alone is given up, its notice is owed to the first task that waits.
+pub fn a_notice_is_passed_on()
+    ensures { PassesItsNoticeOn }
+{}
+
+/// Shows that a number that was never drawn takes nobody's grant.
+pub fn an_undrawn_number_is_no_ticket()
+    ensures { UndrawnIsNoTicket }
 {}

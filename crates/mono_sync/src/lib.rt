@@ -1,10 +1,17 @@
 //! Channels, semaphores and notices for the tasks of one runtime, as plain values that they share.
 #![tactic(auto)]
 
+pub mod acts;
+mod boths;
 mod changes;
 mod deliveries;
 mod idle;
+mod keyed_changes;
 mod keyed_deliveries;
+mod keyed_messages;
+mod keyed_notifications;
+mod keyed_permits;
+mod kinds;
 pub mod laws;
 mod lines;
 mod making;
@@ -13,6 +20,7 @@ pub mod mpsc;
 mod notices;
 mod notifications;
 pub mod oneshot;
+mod owns;
 mod parts;
 pub mod permits;
 mod semaphores;
@@ -20,10 +28,15 @@ mod tables;
 mod touched;
 pub mod watch;
 
+pub use boths::Both;
+pub use keyed_notifications::{NotifiedAt, NotifiedAtError, notify_one_at, notify_waiters_at};
+pub use keyed_permits::AcquireAt;
+pub use kinds::{Tables, empty_tables};
 pub use lines::{Line, Waiter};
 pub use making::{make, remove};
 pub use notices::{Notify, Notifying};
 pub use notifications::{Notified, notify_one, notify_waiters};
+pub use owns::Own;
 pub use parts::{Holds, Lists, Only};
 pub use permits::{Acquire, AcquireError};
 pub use semaphores::{Acquiring, MAX_PERMITS, Semaphore, TooManyPermits, TryAcquireError};

@@ -109,7 +109,8 @@ impl Line {
     }
 
     /// Answers a future of this task that asks with the ticket that it drew, if any. A future that was served collects
-    /// its grant. One that waits for another task has left its place: that task is woken in its turn.
+    /// its grant. One that waits for another task has left its place: that task is woken in its turn. A number that was never
+    /// drawn is no ticket.
     pub fn come(&mut self, ticket: Option<u64>, me: u64, room: usize) -> Coming
         ensures comes { Comes self.old ticket me room result self.new }
         ensures some { result ≡ Free → 0 < room }
@@ -118,8 +119,11 @@ impl Line {
             None => Line::answer(self.has_room(room)),
             Some(ticket) => match self.holder_of(ticket) {
                 None => {
-                    self.granted = self.granted.saturating_sub(1);
-                    Line::answer(self.granted < room)
+                    if ticket < self.next {
+                        self.granted = self.granted.saturating_sub(1);
+                        return Line::answer(self.granted < room);
+                    }
+                    Line::answer(self.has_room(room))
                 }
                 Some(task) => {
                     if task == me {
@@ -154,13 +158,17 @@ impl Line {
     }
 
     /// Takes a future out of the line, in a turn of this task. If it was served, its grant is free again. If it waits for
-    /// another task, that task is woken in its turn.
+    /// another task, that task is woken in its turn. A number that was never drawn changes nothing.
     pub fn leave(&mut self, ticket: Option<u64>, me: u64)
         ensures { Leaves self.old ticket me self.new }
     {
         if let Some(ticket) = ticket {
             match self.holder_of(ticket) {
-                None => self.granted = self.granted.saturating_sub(1),
+                None => {
+                    if ticket < self.next {
+                        self.granted = self.granted.saturating_sub(1);
+                    }
+                }
                 Some(task) => {
                     if task == me {
                         self.waiters

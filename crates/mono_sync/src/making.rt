@@ -36,7 +36,7 @@ fn remove_table<X: Idle + Drop>(parts: &mut Many<X>, key: u64) -> Result<X, Remo
 }
 
 // Makes a part in the whole.
-fn make_part<W: Holds<Many<X>>, X: SharedState + Drop>(
+pub(crate) fn make_part<W: Holds<Many<X>>, X: SharedState + Drop>(
     whole: &mut W,
     alloc: Global,
     part: X,
@@ -49,7 +49,10 @@ fn make_part<W: Holds<Many<X>>, X: SharedState + Drop>(
 }
 
 // Removes the part with this key from the whole.
-fn remove_part<W: Holds<Many<X>>, X: Idle + Drop>(whole: &mut W, key: u64) -> Result<X, RemoveError>
+pub(crate) fn remove_part<W: Holds<Many<X>>, X: Idle + Drop>(
+    whole: &mut W,
+    key: u64,
+) -> Result<X, RemoveError>
     ensures removed { Removes X.waiting X.owes (W.part whole.old) key result (W.part whole.new) }
     ensures leads { W.leads whole.old whole.new }
     ensures keeps { (me : ℕ) → Keeps W.lists me whole.old whole.new }

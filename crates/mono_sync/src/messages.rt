@@ -72,7 +72,7 @@ impl<W, T> Recv<W, T> {
 }
 
 // Queues a message at once.
-fn try_send_part<W: Holds<Channel<T>>, T: Drop>(
+pub(crate) fn try_send_part<W: Holds<Channel<T>>, T: Drop>(
     whole: &mut W,
     message: T,
 ) -> Result<(), TrySendError<T>>
@@ -84,7 +84,7 @@ fn try_send_part<W: Holds<Channel<T>>, T: Drop>(
 }
 
 // Takes a message at once.
-fn try_recv_part<W: Holds<Channel<T>>, T: Drop>(whole: &mut W) -> Result<T, TryRecvError>
+pub(crate) fn try_recv_part<W: Holds<Channel<T>>, T: Drop>(whole: &mut W) -> Result<T, TryRecvError>
     ensures answer { TriesToReceive (W.part whole.old) result (W.part whole.new) }
     ensures leads { W.leads whole.old whole.new }
     ensures keeps { (me : ℕ) → Keeps W.lists me whole.old whole.new }
@@ -138,7 +138,7 @@ fn leave_recv_part<W: Holds<Channel<T>>, T: Drop>(whole: &mut W, ticket: Option<
 }
 
 // Closes the channel.
-fn close_part<W: Holds<Channel<T>>, T: Drop>(whole: &mut W)
+pub(crate) fn close_part<W: Holds<Channel<T>>, T: Drop>(whole: &mut W)
     ensures answer { Closes (W.part whole.old) (W.part whole.new) }
     ensures leads { W.leads whole.old whole.new }
     ensures keeps { (me : ℕ) → Keeps W.lists me whole.old whole.new }

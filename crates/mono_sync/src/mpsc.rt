@@ -6,6 +6,7 @@ ghost use Rattle.mono_sync.specs.Lines.{has_task};
 ghost use Rattle.mono_sync.specs.Listed.{channel_some};
 ghost use Rattle.mono_task.specs.Owed.{Keeps};
 
+pub use crate::keyed_messages::{RecvAt, SendAt, close_at, try_recv_at, try_send_at};
 use crate::lines::{Coming, Line, Waiter};
 pub use crate::messages::{Recv, Send, SendError, close, try_recv, try_send};
 use mono_task::SharedState;

@@ -1,9 +1,8 @@
 // A notice as a plain value.
 ghost use Rattle.std.specs.Prelude.{◌≡◌, [], ℕ};
-ghost use Rattle.std.specs.declared.option.Option.TheVariants.{None, Some};
 ghost use Rattle.mono_sync.specs.Runs.{Leads, leads_itself, leads_on};
 ghost use Rattle.mono_sync.specs.NoticeRuns.{Step};
-ghost use Rattle.mono_sync.specs.Notices.{owed_by, listed_by, waiting_in, most, NotifiesOne, NotifiesAll, Awaits, GivesUp, Pays, PaysOne};
+ghost use Rattle.mono_sync.specs.Notices.{owed_by, listed_by, waiting_in, most, NotifiesOne, NotifiesAll, AwaitsFirst, AwaitsAgain, Awaits, GivesUp, Pays, PaysOne};
 ghost use Rattle.mono_sync.specs.Lines.{has_task};
 ghost use Rattle.mono_sync.specs.Listed.{notice_some};
 ghost use Rattle.mono_task.specs.Owed.{Keeps};
@@ -120,7 +119,7 @@ impl Notify {
 
     // Answers a future of this task that drew no ticket.
     fn ask_first(&mut self, me: u64) -> Notifying
-        ensures { Awaits self.old None me result self.new }
+        ensures { AwaitsFirst self.old me result self.new }
     {
         if self.pending > 0 && self.line.has_room(1) {
             self.pending = 0;
@@ -134,7 +133,7 @@ impl Notify {
 
     // Answers a future of this task that drew this ticket.
     fn ask_again(&mut self, ticket: u64, me: u64) -> Notifying
-        ensures { Awaits self.old (Some ticket) me result self.new }
+        ensures { AwaitsAgain self.old ticket me result self.new }
     {
         match self.line.come(Some(ticket), me, 1) {
             Coming::Waits => Notifying::Waits,
@@ -157,7 +156,12 @@ impl Notify {
     {
         match ticket {
             None => self.ask_first(me),
-            Some(ticket) => self.ask_again(ticket, me),
+            Some(ticket) => {
+                if ticket < self.line.next {
+                    return self.ask_again(ticket, me);
+                }
+                self.ask_first(me)
+            }
         }
     }
 
@@ -181,7 +185,9 @@ impl Notify {
             if ticket < self.cleared {
                 return;
             }
-            self.give();
+            if ticket < self.line.next {
+                self.give();
+            }
         }
     }
 

@@ -55,7 +55,7 @@ fn leave_part<W: Holds<Notify>>(whole: &mut W, ticket: Option<u64>, me: u64)
 }
 
 // Notifies one task.
-fn one_part<W: Holds<Notify>>(whole: &mut W)
+pub(crate) fn one_part<W: Holds<Notify>>(whole: &mut W)
     ensures answer { NotifiesOne (W.part whole.old) (W.part whole.new) }
     ensures leads { W.leads whole.old whole.new }
     ensures keeps { (me : ℕ) → Keeps W.lists me whole.old whole.new }
@@ -64,7 +64,7 @@ fn one_part<W: Holds<Notify>>(whole: &mut W)
 }
 
 // Notifies all tasks that wait.
-fn all_part<W: Holds<Notify>>(whole: &mut W)
+pub(crate) fn all_part<W: Holds<Notify>>(whole: &mut W)
     ensures answer { NotifiesAll (W.part whole.old) (W.part whole.new) }
     ensures leads { W.leads whole.old whole.new }
     ensures keeps { (me : ℕ) → Keeps W.lists me whole.old whole.new }

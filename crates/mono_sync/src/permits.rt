@@ -7,6 +7,7 @@ ghost use Rattle.mono_sync.specs.Permits.{AcquirePolls, AcquireGives, AcquireCan
 ghost use Rattle.mono_sync.specs.Spent.{acquire_spent};
 ghost use Rattle.mono_task.specs.Owed.{Keeps};
 
+pub use crate::keyed_permits::{close_at, release_at, try_acquire_at};
 use crate::parts::Holds;
 use crate::semaphores::{Acquiring, Semaphore, TooManyPermits, TryAcquireError};
 use mono_model::{Host, Poll};
@@ -64,7 +65,7 @@ fn leave_part<W: Holds<Semaphore>>(whole: &mut W, ticket: Option<u64>, me: u64)
 }
 
 // Takes a permit at once.
-fn try_part<W: Holds<Semaphore>>(whole: &mut W) -> Result<(), TryAcquireError>
+pub(crate) fn try_part<W: Holds<Semaphore>>(whole: &mut W) -> Result<(), TryAcquireError>
     ensures answer { TriesToAcquire (W.part whole.old) result (W.part whole.new) }
     ensures leads { W.leads whole.old whole.new }
     ensures keeps { (me : ℕ) → Keeps W.lists me whole.old whole.new }
@@ -73,7 +74,7 @@ fn try_part<W: Holds<Semaphore>>(whole: &mut W) -> Result<(), TryAcquireError>
 }
 
 // Puts a permit back.
-fn release_part<W: Holds<Semaphore>>(whole: &mut W) -> Result<(), TooManyPermits>
+pub(crate) fn release_part<W: Holds<Semaphore>>(whole: &mut W) -> Result<(), TooManyPermits>
     ensures answer { Releases (W.part whole.old) result (W.part whole.new) }
     ensures leads { W.leads whole.old whole.new }
     ensures keeps { (me : ℕ) → Keeps W.lists me whole.old whole.new }
@@ -82,7 +83,7 @@ fn release_part<W: Holds<Semaphore>>(whole: &mut W) -> Result<(), TooManyPermits
 }
 
 // Closes the semaphore.
-fn close_part<W: Holds<Semaphore>>(whole: &mut W)
+pub(crate) fn close_part<W: Holds<Semaphore>>(whole: &mut W)
     ensures answer { Closes (W.part whole.old) (W.part whole.new) }
     ensures leads { W.leads whole.old whole.new }
     ensures keeps { (me : ℕ) → Keeps W.lists me whole.old whole.new }

@@ -4,7 +4,7 @@ ghost use Rattle.std.specs.Borrow.{sem};
 ghost use Rattle.std.specs.Option.{option_copied};
 ghost use Rattle.mono_model.specs.Table.{value_at, count_of, without};
 ghost use Rattle.mono_task.specs.Owed.{Hands};
-ghost use Rattle.mono_sync.specs.Many.{parts_of, lists_each, tasks_each, LeadsEach, IsFull, IsNoted, IsIdle, Makes, Removes, HandsAt};
+ghost use Rattle.mono_sync.specs.Many.{parts_of, lists_each, tasks_each, waits_each, LeadsEach, IsFull, IsNoted, IsIdle, Makes, Removes, HandsAt};
 ghost use Rattle.mono_sync.specs.PlaceLends.{place_lends};
 ghost use Rattle.mono_sync.specs.ManyLeads.{each_itself, each_on, each_some};
 
@@ -61,6 +61,8 @@ impl<X: SharedState> Model for Many<X> {
 /// Each part is led, parts come, and idle ones go. What the part with the least key owes comes first.
 impl<X: SharedState> SharedState for Many<X> {
     ghost leads = { λ a b. LeadsEach X.leads X.waiting X.owes a b };
+
+    ghost names = { λ a. waits_each X.waiting a };
 
     ghost lists = { λ a. lists_each X.lists a };
 

@@ -8,6 +8,7 @@ ghost use Rattle.mono_sync.specs.Listed.{watch_some};
 ghost use Rattle.mono_task.specs.Owed.{Keeps};
 
 pub use crate::changes::{Changed, ChangedError, close, send};
+pub use crate::keyed_changes::{ChangedAt, close_at, send_at};
 use crate::lines::{Coming, Line, Waiter};
 use mono_task::SharedState;
 use std::alloc::Global;

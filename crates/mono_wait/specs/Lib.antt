@@ -42,3 +42,5 @@ pub mod Locks
 pub mod Receives
 pub mod Keepers
 pub mod Takes
+pub mod KeyedTasks
+pub mod Performs

@@ -1,15 +1,15 @@
 -- A pending future over a shared value stands in it with the running task, at its ticket.
 use Rattle.std.specs.Prelude.{◌≡◌, ◌==◌, ◌&&◌, ◌||◌, MatchBool, ℕ, ⊤, Bool, true, false, List, [], ◌∷◌, ◌++◌, Option, Some, None, Ok}
 use Rattle.std.specs.List.{list_any}
-use Rattle.std.proofs.Common.{inl, inr, cond, sym, ap, ◌∙◌, subst, refl, eq-eqb}
+use Rattle.std.proofs.Common.{inl, inr, cond, sym, ap, ◌∙◌, subst, refl, eq-eqb, nat_lt}
 use Rattle.std.proofs.lemmas.Bool.Decides.{eqb_tells}
 use Rattle.mono_model.specs.Tasks.{Tasks}
 use Rattle.mono_model.specs.declared.poll.Poll.TheVariants.{Pending}
-use Rattle.mono_sync.specs.Lines.{waits_at, has_task, holder_of, HasRoom, Marks, Comes, ComesOf, Joins}
+use Rattle.mono_sync.specs.Lines.{waits_at, has_task, holder_of, Fits, Collects, HasRoom, Marks, Comes, ComesOf, Joins}
 use Rattle.mono_sync.specs.Messages as message
 use Rattle.mono_sync.specs.Permits.{AcquirePolls}
 use Rattle.mono_sync.specs.Notifications.{NotifiedPolls}
-use Rattle.mono_sync.specs.Notices.{Awaits}
+use Rattle.mono_sync.specs.Notices.{AwaitsFirst, AwaitsAgain, Awaits}
 use Rattle.mono_sync.specs.Changes.{ChangedPolls}
 use Rattle.mono_sync.specs.Deliveries as delivery
 use Rattle.mono_sync.specs.declared.lines.Waiter.{Waiter}
@@ -88,17 +88,21 @@ module _ (a b : Line) (task room : ℕ) where
   comes_if k u true is holds p = ap (λ l. waits_at l.waiters.items k task) p.1 ∙ holder_waits a.waiters.items k task (holds ∙ ap Some (same_number u task is))
   comes_if k u false is holds p = absurd p.0
 
+  comes_gone : (k : ℕ) (c : Bool) → MatchBool c (Fits b.granted room Waits × Collects a b) (HasRoom b room Waits × (b ≡ a)) → waits_at b.waiters.items k task ≡ true
+  comes_gone k true p = absurd p.0
+  comes_gone k false p = absurd p.0
+
   comes_of : (k : ℕ) (o : Option ℕ) → holder_of a.waiters.items k ≡ o → ComesOf o a k task room Waits b → waits_at b.waiters.items k task ≡ true
-  comes_of k None holds p = absurd p.0
+  comes_of k None holds p = comes_gone k (nat_lt k a.next) p
   comes_of k (Some u) holds p = comes_if k u (u == task) refl holds p
 
   -- a future that waits still
-  comes_waits : (ticket left : Option ℕ) → left ≡ ticket → Comes a ticket task room Waits b → StandsIn b left task
+  pub comes_waits : (ticket left : Option ℕ) → left ≡ ticket → Comes a ticket task room Waits b → StandsIn b left task
   comes_waits None left same p = absurd p.0
   comes_waits (Some k) left same p = (k, same, comes_of k (holder_of a.waiters.items k) refl p)
 
 -- a future that waits from now on
-joins_waits : (a b : Line) (task t : ℕ) (left : Option ℕ) → left ≡ Some t → Joins a task (Ok t) b → StandsIn b left task
+pub joins_waits : (a b : Line) (task t : ℕ) (left : Option ℕ) → left ≡ Some t → Joins a task (Ok t) b → StandsIn b left task
 joins_waits a b task t left same p =
     (t, same, ap (λ ws. waits_at ws t task) p.1 ∙ last_waits a.waiters.items (record { ticket = a.next; task = task; has_left = false }) t task (sym p.0) refl)
 
@@ -119,18 +123,26 @@ module _ {T C : Type 0} (part : C → Channel T) (number : C → ℕ) (work : C 
   pub recv_listed : (ticket : Option ℕ) (c : C) (left : Option ℕ) (d : C) → message.RecvPolls part number work ticket c Pending left d → (has_task (part d).senders (number c) || has_task (part d).receivers (number c)) ≡ true
   recv_listed ticket c left d p = or_right _ _ (named_in (part d).receivers left (number c) (recv_stands ticket c left d p))
 
+awaits_if : (a b : Notify) (k task : ℕ) (left : Option ℕ) (c : Bool) → left ≡ Some k → MatchBool c (AwaitsAgain a k task notifying.Waits b) (AwaitsFirst a task notifying.Waits b) → StandsIn b.line left task
+awaits_if a b k task left true same p = comes_waits a.line b.line task 1 (Some k) left same p.0
+awaits_if a b k task left false same p = absurd p
+
+pub awaits_stands : (a b : Notify) (ticket left : Option ℕ) (task : ℕ) → left ≡ ticket → Awaits a ticket task notifying.Waits b → StandsIn b.line left task
+awaits_stands a b None left task same p = absurd p
+awaits_stands a b (Some k) left task same p = awaits_if a b k task left (nat_lt k a.line.next) same p
+
+joins_if : (a b : Notify) (k task u : ℕ) (left : Option ℕ) (c : Bool) → left ≡ Some u → MatchBool c (AwaitsAgain a k task (notifying.Joined u) b) (AwaitsFirst a task (notifying.Joined u) b) → StandsIn b.line left task
+joins_if a b k task u left true same p = joins_waits p.0.0 b.line task u left same p.0.1.2
+joins_if a b k task u left false same p = joins_waits a.line b.line task u left same p.1
+
+pub joins_stands : (a b : Notify) (ticket left : Option ℕ) (task u : ℕ) → left ≡ Some u → Awaits a ticket task (notifying.Joined u) b → StandsIn b.line left task
+joins_stands a b None left task u same p = joins_waits a.line b.line task u left same p.1
+joins_stands a b (Some k) left task u same p = joins_if a b k task u left (nat_lt k a.line.next) same p
+
 module _ {C : Type 0} (number : C → ℕ) (work : C → Tasks ⊤) where
   pub acquire_stands : (part : C → Semaphore) (ticket : Option ℕ) (c : C) (left : Option ℕ) (d : C) → AcquirePolls part number work ticket c Pending left d → StandsIn (part d).line left (number c)
   acquire_stands part ticket c left d (inl p) = comes_waits (part c).line (part d).line (number c) _ ticket left p.0 p.1.1
   acquire_stands part ticket c left d (inr (t, p)) = joins_waits p.1.1.0 (part d).line (number c) t left p.0 p.1.1.1.1
-
-  awaits_stands : (a b : Notify) (ticket left : Option ℕ) (task : ℕ) → left ≡ ticket → Awaits a ticket task notifying.Waits b → StandsIn b.line left task
-  awaits_stands a b None left task same p = absurd p
-  awaits_stands a b (Some k) left task same p = comes_waits a.line b.line task _ (Some k) left same p.0
-
-  joins_stands : (a b : Notify) (ticket left : Option ℕ) (task u : ℕ) → left ≡ Some u → Awaits a ticket task (notifying.Joined u) b → StandsIn b.line left task
-  joins_stands a b None left task u same p = joins_waits a.line b.line task u left same p.1
-  joins_stands a b (Some k) left task u same p = joins_waits p.0.0 b.line task u left same p.0.1.2
 
   pub notified_stands : (part : C → Notify) (ticket : Option ℕ) (c : C) (left : Option ℕ) (d : C) → NotifiedPolls part number work ticket c Pending left d → StandsIn (part d).line left (number c)
   notified_stands part ticket c left d (inl p) = awaits_stands (part c) (part d) ticket left (number c) p.0 p.1

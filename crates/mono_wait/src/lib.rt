@@ -1,6 +1,7 @@
 //! The sources for which a future waits after a pending poll, and that its task is registered there.
 #![tactic(auto)]
 
+mod at_once;
 mod boxes;
 mod by_task;
 mod channels;
@@ -9,6 +10,8 @@ mod delays;
 mod jobs;
 mod join_lists;
 mod joins;
+mod keyed_peers;
+mod keyed_tickets;
 pub mod laws;
 mod leaves;
 mod locks;

@@ -1,13 +1,10 @@
 //! Tests of channels, semaphores, notices and watched values, over their public calls.
 #![tactic(auto)]
 
-pub mod boards;
 #[cfg(test)]
 mod channels;
 #[cfg(test)]
 mod forms;
-#[cfg(test)]
-mod futures;
 #[cfg(test)]
 mod many;
 #[cfg(test)]

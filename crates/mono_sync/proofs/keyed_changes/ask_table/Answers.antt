@@ -1,0 +1,18 @@
+use Rattle.std.proofs.Common.{refl, inl}
+use Rattle.mono_sync.specs.Runs.{Leads, leads_itself, leads_by}
+use Rattle.mono_sync.specs.Watches.{listed_by, owed_by, waiting_in}
+use Rattle.mono_sync.specs.WatchRuns.{asked, Step}
+use Rattle.mono_sync.specs.ManyLeads.{each_itself, each_with, keeps_with}
+use Rattle.mono_sync.proofs.keyed_changes.ask_table.Goals as goal
+
+pub returns-clause-answer : goal.returns-clause-answer
+returns-clause-answer g c = inl (c.part_mut.result.now, c.changed.new.self, c.part_mut.ensures.value, c.changed.ensures.answer, refl)
+
+pub returns-clause-leads : goal.returns-clause-leads
+returns-clause-leads g c = each_with (Leads Step) waiting_in owed_by (leads_itself Step) c.args.values.now c.args.key c.part_mut.result.now c.changed.new.self c.part_mut.ensures.value (leads_by Step (asked c.args.seen c.args.ticket c.args.me c.changed.result) _ _ c.changed.ensures.answer)
+
+pub returns-clause-keeps : goal.returns-clause-keeps
+returns-clause-keeps g c = keeps_with listed_by c.args.me c.part_mut.result.now c.changed.new.self c.changed.ensures.keeps c.args.values.now c.args.key c.part_mut.ensures.value
+
+pub returns-then-is_none-clause-leads : goal.returns-then-is_none-clause-leads
+returns-then-is_none-clause-leads g c = each_itself (Leads Step) waiting_in owed_by (leads_itself Step) c.args.values.now

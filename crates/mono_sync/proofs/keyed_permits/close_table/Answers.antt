@@ -1,0 +1,17 @@
+use Rattle.std.proofs.Common.{refl, inl}
+use Rattle.mono_sync.specs.Semaphores.{listed_by, owed_by, waiting_in}
+use Rattle.mono_sync.specs.SemaphoreRuns.{closed, Leads, leads_itself, leads_by}
+use Rattle.mono_sync.specs.ManyLeads.{each_itself, each_with, keeps_with}
+use Rattle.mono_sync.proofs.keyed_permits.close_table.Goals as goal
+
+pub returns-clause-answer : goal.returns-clause-answer
+returns-clause-answer c = inl (c.part_mut.result.now, c.close.new.self, c.part_mut.ensures.value, c.close.ensures.answer, refl)
+
+pub returns-clause-leads : goal.returns-clause-leads
+returns-clause-leads c = each_with Leads waiting_in owed_by leads_itself c.args.semaphores.now c.args.key c.part_mut.result.now c.close.new.self c.part_mut.ensures.value (leads_by closed _ _ c.close.ensures.answer)
+
+pub returns-clause-keeps : goal.returns-clause-keeps
+returns-clause-keeps c me = keeps_with listed_by me c.part_mut.result.now c.close.new.self (c.close.ensures.keeps me) c.args.semaphores.now c.args.key c.part_mut.ensures.value
+
+pub returns-then-is_none-clause-leads : goal.returns-then-is_none-clause-leads
+returns-then-is_none-clause-leads c = each_itself Leads waiting_in owed_by leads_itself c.args.semaphores.now
