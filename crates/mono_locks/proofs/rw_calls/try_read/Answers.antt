@@ -1,0 +1,5 @@
+use Rattle.mono_locks.proofs.rw_calls.try_read.Goals as goal
+
+pub returns-clause-reached : goal.returns-clause-reached
+returns-clause-reached g c =
+    g.met.C.SharedContext.reaches_with _ _ (rw c.shared_mut.ensures.value at c.try_read_part.ensures.leads) (rw c.shared_mut.ensures.value at c.try_read_part.ensures.keeps (g.C.Context.number c.args.cx.now))
