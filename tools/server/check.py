@@ -6,6 +6,7 @@ reply may be `refused out-of-memory`. `check` also compares the ticks with a clo
 ends, and allows what a run with a refused allocation may answer."""
 import bisect
 import collections
+import copy
 import heapq
 import itertools
 import sys
@@ -13,8 +14,9 @@ import sys
 SPREAD = 11400714819323198485
 LAST_TICK = 2 ** 63 - 1
 # the calls, with how many numbers follow the key
-CALLS = {"open": 1, "beat": 1, "close": 1, "acquire": 1, "release": 1, "bucket": 2, "take": 2, "spawn": 0, "send": 3, "receive": 0}
-TAKES_MEMORY = {"open", "acquire", "bucket", "spawn", "send"}
+CALLS = {"open": 1, "beat": 1, "close": 1, "acquire": 1, "release": 1, "try": 1, "owner": 0, "stats": 0}
+CALLS |= {"bucket": 2, "take": 2, "spawn": 0, "send": 3, "receive": 0}
+TAKES_MEMORY = {"open", "acquire", "try", "bucket", "spawn", "send"}
 Reply = collections.namedtuple("Reply", "core arrived tick text end")
 # What a run may do beside the rules. `refusals`: how many requests may be refused memory. `late`: by how many milliseconds
 # at most a wait may end after the tick at which its session, or the one before it, closes, and a request's tick be earlier
@@ -32,6 +34,11 @@ def number_of(text):
     if not (text.isascii() and text.isdigit()) or (len(text) > 1 and text[0] == "0") or int(text) >= 2 ** 64:
         return None
     return int(text)
+
+
+def core_of(key, cores):
+    """The core of a key."""
+    return (key * SPREAD % 2 ** 64 >> 32) % cores
 
 
 def request_of(line):
@@ -132,14 +139,18 @@ class Core:
             return "refused no-session", []
         return "ok", [(None, ends) for _, ends in self.remove([(None, session)])]
 
-    def acquire(self, key, session, number):
+    def refusal_to_enter(self, key, session):
         if self.entries >= self.most_entries:
-            return "refused at-capacity", []
+            return "refused at-capacity"
         if session not in self.sessions:
-            return "refused no-session", []
+            return "refused no-session"
+        return "refused doubled" if session in self.queues.get(key, {}) else None
+
+    def acquire(self, key, session, number):
+        refusal = self.refusal_to_enter(key, session)
+        if refusal:
+            return refusal, []
         queue = self.queues.get(key, {})
-        if session in queue:
-            return "refused doubled", []
         self.queues.setdefault(key, {})[session] = True
         self.keys.setdefault(session, {})[key] = True
         self.entries += 1
@@ -156,6 +167,20 @@ class Core:
         self.leave(session, key)
         ends = {**self.end(session, key, "left"), **self.hand_on(key)}
         return "ok", [(None, ends)] if ends else []
+
+    def attempt(self, key, session):
+        """A `try`: an acquire that does not wait."""
+        refusal = self.refusal_to_enter(key, session)
+        if not refusal and self.queues.get(key):
+            return "busy", []
+        return (refusal, []) if refusal else self.acquire(key, session, None)
+
+    def owner(self, key):
+        queue = self.queues.get(key)
+        return f"owner {next(iter(queue))}" if queue else "free", []
+
+    def stats(self, key):
+        return f"stats {len(self.sessions)} {self.entries} {len(self.actors)} {len(self.waiting)}", []
 
     # ---- buckets
 
@@ -213,6 +238,20 @@ class Core:
         else:
             self.actors[me][0] = True
         return f"message {me} {sender} {message}", []
+
+
+def call(core, number, word, key, numbers):
+    """Performs a request. Returns its answer, and the ends of waits."""
+    performs = core.attempt if word == "try" else getattr(core, word)
+    return performs(key, *numbers, *([number] if word == "acquire" else []))
+
+
+def may_lack(core, word, key, numbers):
+    """Whether the request may be refused memory: a try and an acquire before they look at anything else, others if nothing refuses
+    them."""
+    if word not in TAKES_MEMORY:
+        return False
+    return word in ("acquire", "try") or not call(copy.deepcopy(core), None, word, key, numbers)[0].startswith("refused")
 
 
 class Replies:
@@ -314,12 +353,11 @@ class Replay:
             self.perform_unanswered(number, word, key, numbers)
             return 0
         self.pass_to(reply.arrived)
-        if reply.text == "refused out-of-memory" and word in TAKES_MEMORY and self.leave.refusals:
+        if reply.text == "refused out-of-memory" and self.leave.refusals and may_lack(self.core, word, key, numbers):
             self.expect(number, self.core.tick, reply.text)
             self.say([number])
             return 1
-        call = getattr(self.core, word)
-        text, ends = call(key, *numbers, number) if word == "acquire" else call(key, *numbers)
+        text, ends = call(self.core, number, word, key, numbers)
         if text is None:
             self.wait(number)
             return 0
@@ -332,7 +370,7 @@ class Replay:
         """Performs an acquire that waits and has no reply; with any other request the program ended."""
         if self.is_over and number in self.replies:
             raise Wrong(f"request {number} was answered, and one before it was not")
-        if not self.is_over and word == "acquire" and self.core.acquire(key, *numbers, number)[0] is None:
+        if not self.is_over and word == "acquire" and call(self.core, number, word, key, numbers)[0] is None:
             self.wait(number)
         else:
             self.lose([number])
@@ -402,7 +440,7 @@ def check(cores, sizes, requests, replies, times=None, leave=Leave()):
             if reply is not None and reply.text != "bad":
                 raise Wrong(f"line {number} is no request, and was answered: {reply}")
             continue
-        core = (found[1] * SPREAD % 2 ** 64 >> 32) % cores
+        core = core_of(found[1], cores)
         if reply is not None and reply.core != core:
             raise Wrong(f"request {number} belongs to core {core}, and was answered: {reply}")
         refusals += replays[core].perform(number, *found)

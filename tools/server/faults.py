@@ -31,13 +31,16 @@ import tempfile
 import threading
 import time
 
+sys.dont_write_bytecode = True
 import check as checker
-from load import Load, core_of
+from load import Load
 from run import LATE, LIMIT, SIZES, Server, check, serve
 
 TOP = pathlib.Path(__file__).resolve().parent.parent.parent
 NAMES = ["cut", "silent", "hot", "small", "hostile", "quiet", "crowd", "reader", "end", "core", "failed", "refused"]
 BLOCK = 65536
+# Out of memory, or without a thread.
+LACKING = (6,)
 
 
 def row(name, server, cores, load, cut=None, sizes=SIZES, late=None):
@@ -81,7 +84,7 @@ def serve_bytes(name, server, cores, parts, **leave):
 def hostile(server):
     """Lines that are nearly requests."""
     near = ["", " ", "spawn", "spawn ", "spawn 1 ", " spawn 1", "spawn  1", "SPAWN 1", "spawn 1\r", "spawn\t1", "spawn 01", "spawn +1"]
-    near += ["spawn -1", "spawn 1x", "spawn 0x1", "spawn 1\0", f"spawn {2 ** 64}", f"spawn {10 ** 30}", "open 1", "open 1 5 5", "owner 1", "clock 5"]
+    near += ["spawn -1", "spawn 1x", "spawn 0x1", "spawn 1\0", f"spawn {2 ** 64}", f"spawn {10 ** 30}", "open 1", "open 1 5 5", "owner", "try 1", "stats 1 2", "clock 5"]
     near += ["beat 1 " + "0" * 20, "send 1 2 3", "send 1 2 3 4 5", "receive", "bad", "\xb2", "spawn \xb2", "take 1 2"]
     draw = random.Random(4)
     load = Load(12, 2, 100)
@@ -97,7 +100,7 @@ def hostile(server):
 
 def quiet(server):
     """A session closes and hands its lock on, while no line comes."""
-    keys = [next(key for key in range(100) if core_of(key, 2) == core) for core in (0, 1)]
+    keys = [next(key for key in range(100) if checker.core_of(key, 2) == core) for core in (0, 1)]
     lines = [f"open {key} {limit}\n" for key in keys for limit in (300, 60000)]
     lines += [f"acquire {key} {session}\n" for key in keys for session in (0, 1)]
     first, last = "".join(lines).encode(), "".join(f"beat {key} 0\n" for key in keys).encode()
@@ -188,7 +191,7 @@ def are_asleep(program):
 def end(server):
     """Reads no reply until the input has ended and all threads wait. Then the channel of the texts is full, and the core
     with a wait has its end as a text. The other core's lines fill the channel of the texts, and not that of the requests."""
-    keys = [next(key for key in range(100) if core_of(key, 2) == core) for core in (0, 1)]
+    keys = [next(key for key in range(100) if checker.core_of(key, 2) == core) for core in (0, 1)]
     first = [f"open {keys[1]} 3600000\n"] * 2 + [f"acquire {keys[1]} {session}\n" for session in (0, 1)]
     more = f"send {keys[0]} {2 ** 64 - 1} {2 ** 64 - 1} {2 ** 64 - 1}\n"
     with tempfile.TemporaryDirectory() as name:
@@ -275,11 +278,11 @@ class Refusals:
         with os.fdopen(told) as counts:
             count = int((counts.read().split() or [0])[0])
         try:
-            leave = checker.Leave(refusals=min(n, 1), is_cut=status == 6)
+            leave = checker.Leave(refusals=min(n, 1), is_cut=status in LACKING)
             checker.check(2, list(map(int, SIZES)), self.folder / "lines", self.folder / "replies", leave=leave)
         except checker.Wrong as wrong:
             sys.exit(f"allocation {n} refused: status {status}, {wrong}")
-        if status not in ((0, 6) if n else (0,)):
+        if status not in ((0, *LACKING) if n else (0,)):
             sys.exit(f"allocation {n} refused: status {status}")
         return status, count
 
@@ -302,14 +305,14 @@ def refused(server):
         _, count = runs.run(0)
         if count == 0:
             sys.exit("no allocation was seen: this server brings an allocator of its own")
-        ends = [n for n in range(1, count + 20) if runs.run(n)[0] == 6]
+        ends = [n for n in range(1, count + 20) if runs.run(n)[0] in LACKING]
         print(f"{count} allocations, each refused in turn: as documented; {len(ends)} ended it", flush=True)
         tried = 0
         for n in ends[:: max(1, len(ends) // 20)]:
             status, has_ended = runs.run_open(n)
-            if status not in (0, 6) or (status == 6 and not has_ended):
+            if status not in (0, *LACKING) or (status in LACKING and not has_ended):
                 sys.exit(f"allocation {n} refused: it went on until its input ended, and then came status {status}")
-            tried += status == 6
+            tried += status in LACKING
         if tried == 0:
             sys.exit("nothing ran out of memory while the input was open")
     print(f"{tried} times out of memory with an open input: as documented", flush=True)

@@ -8,12 +8,8 @@ import random
 import sys
 import time
 
-SPREAD = 11400714819323198485
-
-
-def core_of(key, cores):
-    """The core of a key, as the server has it."""
-    return (key * SPREAD % 2 ** 64 >> 32) % cores
+sys.dont_write_bytecode = True
+from check import core_of
 
 
 class Client:
@@ -62,6 +58,12 @@ class Load:
         key = client.asked.pop(self.draw.randrange(len(client.asked)))
         return f"release {key} {client.session}"
 
+    def look(self, client):
+        """A try, or a question."""
+        word = self.draw.choice(["try", "owner", "stats"])
+        key = client.key if word == "stats" else self.lock(client)
+        return f"try {key} {client.session}" if word == "try" else f"{word} {key}"
+
     def lease_line(self, client):
         """A call on the leases."""
         if client.session is None or self.draw.random() < 0.02:
@@ -69,7 +71,9 @@ class Load:
         what = self.draw.random()
         if what < 0.4:
             return f"beat {client.key} {client.session}"
-        if what < 0.41:
+        if what < 0.43:
+            return self.look(client)
+        if what < 0.44:
             line = f"close {client.key} {client.session}"
             client.session = None
             return line

@@ -21,6 +21,9 @@ enum Call {
     Close(u64),
     Acquire(u64),
     Release(u64),
+    Try(u64),
+    Owner,
+    Count,
     Bucket(u64, u64),
     Take(u64, u64),
     Spawn,
@@ -74,6 +77,9 @@ fn request_of(line_number: u64, line: &[u8]) -> Option<Request> {
         b"close" => (2, Call::Close(a)),
         b"acquire" => (2, Call::Acquire(a)),
         b"release" => (2, Call::Release(a)),
+        b"try" => (2, Call::Try(a)),
+        b"owner" => (1, Call::Owner),
+        b"stats" => (1, Call::Count),
         b"bucket" => (3, Call::Bucket(a, b)),
         b"take" => (3, Call::Take(a, b)),
         b"spawn" => (1, Call::Spawn),
@@ -261,6 +267,29 @@ impl Core {
                     self.reply(own, arrived, format_args!("left"));
                 }
                 self.hand_on(key);
+            }
+            Call::Try(session) => {
+                if self.entries >= self.sizes.entries {
+                    return self.reply(number, tick, format_args!("refused at-capacity"));
+                }
+                let Some(open) = self.sessions.get(&session) else {
+                    return self.reply(number, tick, format_args!("refused no-session"));
+                };
+                if open.keys.contains(&key) {
+                    return self.reply(number, tick, format_args!("refused doubled"));
+                }
+                if self.queues.contains_key(&key) {
+                    return self.reply(number, tick, format_args!("busy"));
+                }
+                self.handle(&Request { number, key, call: Call::Acquire(session) });
+            }
+            Call::Owner => match self.queues.get(&key).and_then(|queue| queue.front()).copied() {
+                Some(session) => self.reply(number, tick, format_args!("owner {session}")),
+                None => self.reply(number, tick, format_args!("free")),
+            },
+            Call::Count => {
+                let counts = (self.sessions.len(), self.entries, self.actors.len(), self.waiting.len());
+                self.reply(number, tick, format_args!("stats {} {} {} {}", counts.0, counts.1, counts.2, counts.3));
             }
             Call::Bucket(burst, period) => {
                 if self.buckets.len() as u64 >= self.sizes.buckets {

@@ -14,12 +14,13 @@ import tempfile
 import threading
 import time
 
+sys.dont_write_bytecode = True
 import check as checker
 
 HERE = pathlib.Path(__file__).resolve().parent
 SIZES = ["100000", "100000", "10000", "10000", "100000"]
 # By how many milliseconds a busy machine may delay a core or a reader.
-LATE = 2000
+LATE = 5000
 # After how many seconds a server that does not end is ended.
 LIMIT = 180
 

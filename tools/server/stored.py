@@ -8,7 +8,9 @@ refusal of a still clock is there, and some acquires wait as the input ends.
 import collections
 import pathlib
 import random
+import sys
 
+sys.dont_write_bytecode = True
 import check
 
 CRATE = pathlib.Path(__file__).resolve().parent.parent.parent / "crates" / "lease_server"
@@ -19,7 +21,7 @@ TOP = 2 ** 64 - 1
 
 def keys(first, many):
     """This many keys of the core, upward from the first."""
-    found = (key for key in range(first, first + 1000) if (key * check.SPREAD % 2 ** 64 >> 32) % CORES == CORE)
+    found = (key for key in range(first, first + 1000) if check.core_of(key, CORES) == CORE)
     return [key for _, key in zip(range(many), found)]
 
 
@@ -44,13 +46,16 @@ class Lines:
             "close": [session],
             "acquire": [session],
             "release": [session],
+            "try": [session],
+            "owner": [],
+            "stats": [],
             "bucket": [self.one(0, 1, 7, 2 ** 32 - 1, 2 ** 32), self.one(0, 1, 60000, 2 ** 32)],
             "take": [draw.randrange(12), self.one(0, 1, 2, 8, TOP)],
             "spawn": [],
             "send": [draw.randrange(11), draw.randrange(11), draw.randrange(2 ** 64)],
             "receive": [],
         }[word]
-        if word not in ("acquire", "release"):
+        if word not in ("acquire", "release", "try", "owner"):
             key = draw.choice(self.far)
         return " ".join(map(str, [word, key, *numbers]))
 
@@ -72,8 +77,7 @@ def main():
     while sum(map(len, lines)) < BLOCKS * BLOCK + BLOCK // 2 or len(core.waiting) < 3:
         lines.append(made.line(core.sessions, core.next_session) + "\n")
         number, (word, key, numbers) = len(lines), check.request_of(lines[-1][:-1])
-        call = getattr(core, word)
-        text, ends = call(key, *numbers, number) if word == "acquire" else call(key, *numbers)
+        text, ends = check.call(core, number, word, key, numbers)
         if text is not None:
             reply(number, text)
         settle(ends)

@@ -16,7 +16,7 @@ use Rattle.lease_core.specs.declared.requests.Outcome.TheVariants as outcome
 use Rattle.lease_core.specs.declared.requests.Reply.{Reply}
 use Rattle.lease_core.specs.Waits.{left_in, closed_end, end_reply, ended, still, ended_by, still_by, input_end}
 use Rattle.lease_core.specs.Cores.{CoreState, at_once}
-use Rattle.lease_core.specs.Steps.{Handles, HeldOrWaits, Frees, TurnEnds, Event, Advance, Handle, Finish, Step}
+use Rattle.lease_core.specs.Steps.{Handles, HeldOrWaits, HeldOrBusy, Frees, TurnEnds, Event, Advance, Handle, Finish, Step}
 use Rattle.lease_core.specs.Laws.{asked, answered, waited, AnsweredOnce, NoneWaitAtTheEnd}
 
 abbrev answers : List Reply → ℕ → ℕ
@@ -68,6 +68,16 @@ held_counts n number s key old new lease_answer.Free k replies h = at_once_count
 held_counts n number s key old new (lease_answer.Closed x) k replies h = at_once_counts n number h.0 old new replies h.2 (ap (λ (c : CoreState). c.waiting) h.3)
 held_counts n number s key old new (lease_answer.Refused x) k replies h = at_once_counts n number h.0 old new replies h.2 (ap (λ (c : CoreState). c.waiting) h.3)
 
+busy_counts : (n number : ℕ) (old new : CoreState) (a : lease_answer.Answer) (k : Keeper) (replies : List Reply) → HeldOrBusy old number a k replies new → Counts n old (once_if (number == n)) replies new
+busy_counts n number old new lease_answer.Waits k replies h = at_once_counts n number outcome.Busy old new replies h.0 (ap (λ (c : CoreState). c.waiting) h.1)
+busy_counts n number old new (lease_answer.Session x) k replies h = at_once_counts n number h.0 old new replies h.2 (ap (λ (c : CoreState). c.waiting) h.3)
+busy_counts n number old new lease_answer.Done k replies h = at_once_counts n number h.0 old new replies h.2 (ap (λ (c : CoreState). c.waiting) h.3)
+busy_counts n number old new lease_answer.Held k replies h = at_once_counts n number h.0 old new replies h.2 (ap (λ (c : CoreState). c.waiting) h.3)
+busy_counts n number old new (lease_answer.Owner x) k replies h = at_once_counts n number h.0 old new replies h.2 (ap (λ (c : CoreState). c.waiting) h.3)
+busy_counts n number old new lease_answer.Free k replies h = at_once_counts n number h.0 old new replies h.2 (ap (λ (c : CoreState). c.waiting) h.3)
+busy_counts n number old new (lease_answer.Closed x) k replies h = at_once_counts n number h.0 old new replies h.2 (ap (λ (c : CoreState). c.waiting) h.3)
+busy_counts n number old new (lease_answer.Refused x) k replies h = at_once_counts n number h.0 old new replies h.2 (ap (λ (c : CoreState). c.waiting) h.3)
+
 frees_count : (n number : ℕ) (e : ℕ → Waiter → Option Outcome) (keys : List ℕ) (old new : CoreState) (a : lease_answer.Answer) (k : Keeper) (replies : List Reply) → Frees old number e keys a k replies new
     → Counts n old (once_if (number == n)) replies new
 frees_count n number e keys old new lease_answer.Done k replies h = rw (h.0, ap (λ (c : CoreState). c.waiting) h.1) (omega (arith, key_ends_count e k.greatest keys old.waiting n))
@@ -96,6 +106,9 @@ handles_count n number key (call.Beat s) old new replies h = at_once_counts n nu
 handles_count n number key (call.Close s) old new replies h = frees_count n number (left_in s outcome.Closed h.keeper) (keys_in old.keeper.entries s) old new h.answer h.keeper replies h.rest
 handles_count n number key (call.Acquire s) old new replies h = held_counts n number s key old new h.answer h.keeper replies h.rest
 handles_count n number key (call.Release s) old new replies h = frees_count n number (left_in s outcome.Left h.keeper) (key ∷ []) old new h.answer h.keeper replies h.rest
+handles_count n number key (call.Try s) old new replies h = busy_counts n number old new h.answer h.keeper replies h.rest
+handles_count n number key call.Owner old new replies h = at_once_counts n number h.told old new replies h.replies_are (ap (λ (c : CoreState). c.waiting) h.becomes)
+handles_count n number key call.Count old new replies h = at_once_counts n number _ old new replies h.0 (ap (λ (c : CoreState). c.waiting) h.1)
 handles_count n number key (call.Bucket burst period) old new replies h = at_once_counts n number h.told old new replies h.replies_are (ap (λ (c : CoreState). c.waiting) h.becomes)
 handles_count n number key (call.Take b m) old new replies h = at_once_counts n number h.told old new replies h.replies_are (ap (λ (c : CoreState). c.waiting) h.becomes)
 handles_count n number key call.Spawn old new replies h = at_once_counts n number h.told old new replies h.replies_are (ap (λ (c : CoreState). c.waiting) h.becomes)

@@ -80,10 +80,10 @@ refines_after old new s next waiting r stands tick same is = record {
 }
 
 -- The reply that the core made is that of the state.
-at_tick : (number m n : ℕ) (told : Outcome) (replies : List Reply) → replies ≡ reply_at m number told ∷ [] → m ≡ n → replies ≡ reply_at n number told ∷ []
+pub at_tick : (number m n : ℕ) (told : Outcome) (replies : List Reply) → replies ≡ reply_at m number told ∷ [] → m ≡ n → replies ≡ reply_at n number told ∷ []
 at_tick number m n told replies is same = subst (λ k. replies ≡ reply_at k number told ∷ []) same is
 
-abbrev Steps : Core → Core → lease.Call → answer.Answer → Type 0
+abbrev pub Steps : Core → Core → lease.Call → answer.Answer → Type 0
 Steps old new c a = (k : Keeper) → StandsFor old.sessions k → Stepped k c a (StandsFor new.sessions)
 
 pub leases_told : (old new : Core) (number : ℕ) (c : lease.Call) (a : answer.Answer) (told : Outcome) → LeaseTells a told → Steps old new c a → SameServices old new

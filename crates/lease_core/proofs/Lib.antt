@@ -5,6 +5,7 @@ pub mod EndLemmas
 pub mod LeaveLemmas
 pub mod LeaseLemmas
 pub mod UndoLemmas
+pub mod LookLemmas
 pub mod ServiceLemmas
 pub mod CountLemmas
 pub mod RouteLemmas

@@ -19,7 +19,7 @@ use Rattle.lease_core.specs.declared.requests.Reply.{Reply}
 use Rattle.lease_core.specs.Routes.{core_of}
 use Rattle.lease_core.specs.Waits.{left_in}
 use Rattle.lease_core.specs.Cores.{CoreState, new_core}
-use Rattle.lease_core.specs.Steps.{LeaseStep, Handles, HeldOrWaits, Frees, TurnEnds, Event, Advance, Handle, Finish, Run}
+use Rattle.lease_core.specs.Steps.{LeaseStep, Handles, HeldOrWaits, HeldOrBusy, Frees, TurnEnds, Event, Advance, Handle, Finish, Run}
 use Rattle.lease_core.specs.Laws.{AreRouted, OneCoreHolds}
 
 true-false : true ≡ false → ⊥
@@ -114,6 +114,20 @@ module _ (core cores : ℕ) where
   own_release k new s key a own (inl step) = own_same (released k s key) new step.1 (own_granted (release_answer k s key) k _ own (own_filter _ k.entries own))
   own_release k new s key a own (inr lacks) = absurd lacks.0
 
+  own_owner_step : (k new : Keeper) (key : ℕ) (a : lease_answer.Answer) → Own k.entries → LeaseStep k (lease.Owner key) a new → Own new.entries
+  own_owner_step k new key a own (inl step) = own_same k new step.1 own
+  own_owner_step k new key a own (inr lacks) = absurd lacks.0
+
+  own_tried : (number : ℕ) (old new : CoreState) (a : lease_answer.Answer) (k : Keeper) (replies : List Reply) → Own old.keeper.entries → Own k.entries → HeldOrBusy old number a k replies new → Own new.keeper.entries
+  own_tried number old new lease_answer.Waits k replies own after h = own_same old.keeper new.keeper (ap (λ (c : CoreState). c.keeper) h.1) own
+  own_tried number old new (lease_answer.Session x) k replies own after h = own_same k new.keeper (ap (λ (c : CoreState). c.keeper) h.3) after
+  own_tried number old new lease_answer.Done k replies own after h = own_same k new.keeper (ap (λ (c : CoreState). c.keeper) h.3) after
+  own_tried number old new lease_answer.Held k replies own after h = own_same k new.keeper (ap (λ (c : CoreState). c.keeper) h.3) after
+  own_tried number old new (lease_answer.Owner x) k replies own after h = own_same k new.keeper (ap (λ (c : CoreState). c.keeper) h.3) after
+  own_tried number old new lease_answer.Free k replies own after h = own_same k new.keeper (ap (λ (c : CoreState). c.keeper) h.3) after
+  own_tried number old new (lease_answer.Closed x) k replies own after h = own_same k new.keeper (ap (λ (c : CoreState). c.keeper) h.3) after
+  own_tried number old new (lease_answer.Refused x) k replies own after h = own_same k new.keeper (ap (λ (c : CoreState). c.keeper) h.3) after
+
   own_handled : (number key : ℕ) (c : Call) (old new : CoreState) (replies : List Reply) → core_of key cores ≡ core → Own old.keeper.entries → Handles old number key c replies new → Own new.keeper.entries
   own_handled number key (call.Open limit) old new replies is own h = own_same h.keeper new.keeper (ap (λ (c : CoreState). c.keeper) h.becomes) (own_open old.keeper h.keeper limit h.answer own h.step)
   own_handled number key (call.Beat s) old new replies is own h = own_same h.keeper new.keeper (ap (λ (c : CoreState). c.keeper) h.becomes) (own_beat old.keeper h.keeper s h.answer own h.step)
@@ -123,6 +137,10 @@ module _ (core cores : ℕ) where
       own_same h.keeper new.keeper (held_keeper number s key old new h.answer h.keeper replies h.rest) (own_acquire old.keeper h.keeper s key h.answer is own h.step)
   own_handled number key (call.Release s) old new replies is own h =
       own_same h.keeper new.keeper (frees_keeper number (left_in s outcome.Left h.keeper) (key ∷ []) old new h.answer h.keeper replies h.rest) (own_release old.keeper h.keeper s key h.answer own h.step)
+  own_handled number key (call.Try s) old new replies is own h =
+      own_tried number old new h.answer h.keeper replies own (own_acquire old.keeper h.keeper s key h.answer is own h.step) h.rest
+  own_handled number key call.Owner old new replies is own h = own_same h.keeper new.keeper (ap (λ (c : CoreState). c.keeper) h.becomes) (own_owner_step old.keeper h.keeper key h.answer own h.step)
+  own_handled number key call.Count old new replies is own h = own_same old.keeper new.keeper (ap (λ (c : CoreState). c.keeper) h.1) own
   own_handled number key (call.Bucket burst period) old new replies is own h = own_same old.keeper new.keeper (ap (λ (c : CoreState). c.keeper) h.becomes) own
   own_handled number key (call.Take b m) old new replies is own h = own_same old.keeper new.keeper (ap (λ (c : CoreState). c.keeper) h.becomes) own
   own_handled number key call.Spawn old new replies is own h = own_same old.keeper new.keeper (ap (λ (c : CoreState). c.keeper) h.becomes) own

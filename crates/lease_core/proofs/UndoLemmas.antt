@@ -57,6 +57,19 @@ undo_step k s key b r Mid After (inl (told, mid)) undo =
     record { next = k; step = inr (tt, refl, refl); after = subst After (undone k s key b told) (undo (acquired k s key) mid).1; tick = refl }
 undo_step k s key b r Mid After (inr (ok, told, left)) undo = cc told
 
+-- An acquire that would wait was undone.
+pub record Undone (k : Keeper) (s key : ℕ) (After : Keeper → Type 0) : Type 0 where
+  pub told : answer.Waits ≡ answer.of_first (acquire_answer k s key)
+  pub after : After k
+
+pub undone_step : (k : Keeper) (s key : ℕ) (b : Bool) (r : Result _ SessionError) (Mid After : Keeper → Type 0) → b ≡ false → OrLacksMemory error.Memory (acquire_answer k s key) k (acquired k s key) Mid (Ok b)
+    → ((m : Keeper) → Mid m → (r ≡ release_answer m s key) × After (released m s key)) → Undone k s key After
+undone_step k s key b r Mid After waits (inl (told, mid)) undo = record {
+  told = ap (λ x. answer.of_first (Ok x)) (sym waits) ∙ ap answer.of_first told;
+  after = subst After (undone k s key b told) (undo (acquired k s key) mid).1;
+}
+undone_step k s key b r Mid After waits (inr (ok, told, left)) undo = cc told
+
 -- What is known of a push that was tested.
 pub if_pushed : {A E : Type 0} (P : Type 0) (r : Result A E) (b : Bool) → b ≡ is_err r → b ≡ false → OnOk r P → P
 if_pushed P (Ok x) b shows none on = on

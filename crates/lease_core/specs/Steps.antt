@@ -1,6 +1,7 @@
 -- The steps of a core: from old it may perform the event with these replies and become new. Each step is a step of the
 -- services' models, or an allocation failed and nothing has changed.
-use Rattle.std.specs.Prelude.{◌≡◌, ◌⊎◌, ⊤, ℕ, false, List, [], ◌∷◌, ◌++◌, Option, IsOk}
+use Rattle.std.specs.Prelude.{◌≡◌, ◌⊎◌, ⊤, ℕ, false, List, [], ◌∷◌, ◌++◌, length, Option, IsOk}
+use Rattle.mono_model.specs.Table.{count_of}
 use Rattle.mono_session.specs.Keeper.{Keeper, open_answer}
 use Rattle.mono_session.specs.Entries.{keys_in}
 use Rattle.mono_session.specs.Holders.{leaves}
@@ -21,6 +22,7 @@ use Rattle.mono_actor.specs.declared.answers.ActorError.TheVariants as mail_erro
 use Rattle.lease_core.specs.declared.ends.Waiter.{Waiter}
 use Rattle.lease_core.specs.declared.requests.Call.{Call}
 use Rattle.lease_core.specs.declared.requests.Call.TheVariants as call
+use Rattle.lease_core.specs.declared.requests.Counts.{Counts}
 use Rattle.lease_core.specs.declared.requests.Request.{Request}
 use Rattle.lease_core.specs.declared.requests.Outcome.{Outcome}
 use Rattle.lease_core.specs.declared.requests.Outcome.TheVariants as outcome
@@ -105,6 +107,22 @@ pub record Acquires (old : CoreState) (number s key : ℕ) (replies : List Reply
   pub step : LeaseStep old.keeper (lease.Acquire s key) answer keeper
   pub rest : HeldOrWaits old number s key answer keeper replies new
 
+-- A try whose session does not hold the lock at once leaves the core as it was.
+abbrev pub HeldOrBusy : CoreState → ℕ → lease_answer.Answer → Keeper → List Reply → CoreState → Type 0
+HeldOrBusy old number lease_answer.Waits keeper replies new = (replies ≡ at_once old number outcome.Busy ∷ []) × (new ≡ old)
+HeldOrBusy old number answer keeper replies new =
+    (told : Outcome) × LeaseTells answer told × (replies ≡ at_once old number told ∷ []) × (new ≡ with_leases old keeper old.waiting)
+
+pub record Tries (old : CoreState) (number s key : ℕ) (replies : List Reply) (new : CoreState) : Type 0 where
+  pub answer : lease_answer.Answer
+  pub keeper : Keeper
+  pub step : LeaseStep old.keeper (lease.Acquire s key) answer keeper
+  pub rest : HeldOrBusy old number answer keeper replies new
+
+-- How much there is in a core.
+abbrev pub counts_of : CoreState → Counts
+counts_of core = record { sessions = count_of core.keeper.sessions; entries = length core.keeper.entries; actors = count_of core.actors.table; waiting = length core.waiting }
+
 -- After a call that was performed, the waits end that `end_at` names, key by key.
 abbrev pub Frees : CoreState → ℕ → (ℕ → Waiter → Option Outcome) → List ℕ → lease_answer.Answer → Keeper → List Reply → CoreState → Type 0
 Frees old number end_at keys lease_answer.Done keeper replies new =
@@ -147,6 +165,9 @@ Handles old number key (call.Beat s) replies new = Leases old number (lease.Beat
 Handles old number key (call.Close s) replies new = Closes old number s replies new
 Handles old number key (call.Acquire s) replies new = Acquires old number s key replies new
 Handles old number key (call.Release s) replies new = Releases old number s key replies new
+Handles old number key (call.Try s) replies new = Tries old number s key replies new
+Handles old number key call.Owner replies new = Leases old number (lease.Owner key) replies new
+Handles old number key call.Count replies new = (replies ≡ at_once old number (outcome.Counted (counts_of old)) ∷ []) × (new ≡ old)
 Handles old number key (call.Bucket burst period) replies new = Takes old number (limit.Bucket burst period) replies new
 Handles old number key (call.Take b n) replies new = Takes old number (limit.Take b n) replies new
 Handles old number key call.Spawn replies new = Mails old number mail.Spawn replies new

@@ -11,8 +11,8 @@ LeaseTells (lease.Session s) told = told ≡ outcome.Opened s
 LeaseTells lease.Done told = told ≡ outcome.Done
 LeaseTells lease.Held told = told ≡ outcome.Held
 LeaseTells lease.Waits told = ⊥
-LeaseTells (lease.Owner s) told = ⊥
-LeaseTells lease.Free told = ⊥
+LeaseTells (lease.Owner s) told = told ≡ outcome.Owned s
+LeaseTells lease.Free told = told ≡ outcome.Free
 LeaseTells (lease.Closed sessions) told = ⊥
 LeaseTells (lease.Refused error) told = told ≡ outcome.LeaseRefused error
 

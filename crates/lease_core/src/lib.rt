@@ -6,6 +6,7 @@ mod cores;
 mod ends;
 pub mod laws;
 mod leases;
+mod looks;
 mod mails;
 mod performs;
 mod places;
@@ -17,6 +18,6 @@ mod waits;
 
 pub use cores::Core;
 pub use ends::Waiter;
-pub use requests::{Call, Outcome, Reply, Request};
+pub use requests::{Call, Counts, Outcome, Reply, Request};
 pub use routes::core_of;
 pub use sizes::Sizes;

@@ -38,8 +38,8 @@ impl Core {
     /// Performs a request at the greatest tick of the clock so far. The replies are the answer to the request, unless it
     /// is an acquire that waits, and the answers to the acquires whose waits it ended.
     ///
-    /// A request that is out of memory is answered so, and changes nothing. Only `Open`, `Acquire`, `Bucket`, `Spawn`
-    /// and `Send` take memory.
+    /// A request that is out of memory is answered so, and changes nothing. Only `Open`, `Acquire`, `Try`, `Bucket`,
+    /// `Spawn` and `Send` take memory.
     pub fn handle(&mut self, alloc: Global, request: &Request)
         ensures { Performs self.old request.now.number request.now.key request.now.call self.new }
     {
@@ -58,6 +58,9 @@ impl Core {
             Call::Close(session) => self.close(number, session),
             Call::Acquire(session) => self.acquire(alloc, number, key, session),
             Call::Release(session) => self.release(number, key, session),
+            Call::Try(session) => self.attempt(alloc, number, key, session),
+            Call::Owner => self.owner(number, key),
+            Call::Count => self.count(number),
             Call::Bucket(burst, period) => self.bucket(alloc, number, burst, period),
             Call::Take(bucket, n) => self.take(number, bucket, n),
             Call::Spawn => self.spawn(alloc, number),

@@ -18,6 +18,12 @@ pub enum Call {
     Acquire(u64),
     /// Removes a session from the queue of the request's key.
     Release(u64),
+    /// Appends a session to the queue of the request's key if the queue is empty. Otherwise the session does not wait.
+    Try(u64),
+    /// Asks which session holds the lock of the request's key.
+    Owner,
+    /// Asks how much there is in the core.
+    Count,
     /// Adds a full bucket: its burst, and the milliseconds of a period.
     Bucket(u64, u64),
     /// Takes tokens: the bucket, and their number.
@@ -28,6 +34,19 @@ pub enum Call {
     Send(u64, u64, u64),
     /// Runs the turn of the actor that has been queued for the longest time.
     Receive,
+}
+
+/// How much there is in a core.
+#[derive(Clone, Copy, Debug, PartialEq, Eq, Drop)]
+pub struct Counts {
+    /// The open sessions.
+    pub sessions: u64,
+    /// The entries in the queues of all keys.
+    pub entries: u64,
+    /// The live actors.
+    pub actors: u64,
+    /// The acquires that wait.
+    pub waiting: u64,
 }
 
 /// A request with its number and the key that decides its core.
@@ -56,6 +75,14 @@ pub enum Outcome {
     Closed,
     /// The input ended before the session held the lock.
     Ended,
+    /// Another session holds the lock of the key, and this one does not wait for it.
+    Busy,
+    /// This session holds the lock of the key.
+    Owned(u64),
+    /// No session holds the lock of the key.
+    Free,
+    /// So much there is in the core.
+    Counted(Counts),
     /// The bucket was added, and has this number.
     Added(u64),
     /// The bucket's answer.

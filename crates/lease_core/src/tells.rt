@@ -30,6 +30,16 @@ pub fn of_beat(told: Result<(), SessionError>) -> Outcome
     }
 }
 
+/// Returns the outcome of a question for the holder of a lock.
+pub fn of_owner(told: Option<u64>) -> Outcome
+    ensures { LeaseTells (lease.of_owner told) result }
+{
+    match told {
+        Some(session) => Outcome::Owned(session),
+        None => Outcome::Free,
+    }
+}
+
 /// Returns the outcome of a new bucket.
 pub fn of_bucket(told: Result<u64, LimitError>) -> Outcome
     ensures { LimitTells (limit.of_bucket told) result }

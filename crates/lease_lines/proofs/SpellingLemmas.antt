@@ -11,7 +11,7 @@ use Rattle.lease_core.specs.declared.requests.Call.{Call}
 use Rattle.lease_core.specs.declared.requests.Call.TheVariants as call
 use Rattle.lease_lines.specs.declared.calls.KeyCall.{KeyCall}
 use Rattle.lease_lines.specs.Lines.{call_text, FitsCall, SpellsNone, whole}
-use Rattle.lease_lines.specs.Parser.{one_at, two_at, three_at, mail_call_at, token_call_at, call_at}
+use Rattle.lease_lines.specs.Parser.{one_at, two_at, three_at, mail_call_at, look_call_at, token_call_at, call_at}
 
 -- ---- the parts of a line of one number, and of more
 
@@ -85,6 +85,19 @@ three_found word make bytes r k rest spelled w e =
     ∙ four_parts word (decimal s.0) (codes " ") (decimal t.0) (codes " ") (decimal u.0) (codes " ") (decimal l.0) rest in
     subst (CallIs bytes rest) (ap make l.2 ∙ m.2) (text ∙ ap (λ x. x ++ rest) (spelled s.0 t.0 u.0 l.0))
 
+look_call_found : (bytes : List ℕ) (k : KeyCall) (rest : List ℕ) → look_call_at bytes ≡ Some (k, rest) → CallIs bytes rest k
+unfolding look_call_at
+look_call_found bytes k rest e = elim (when_cases (word_at (codes "try ") bytes) _ _ _ e) [
+  | inl u ↦ one_found (codes "try ") (λ n. record { key = n.0; call = call.Try n.1 }) bytes u.0 k rest (λ a b. refl) u.1 u.2
+  | inr v ↦ elim (when_cases (word_at (codes "owner ") bytes) _ _ _ v.1) [
+    | inl u ↦ key_found (codes "owner ") (λ key. record { key = key; call = call.Owner }) bytes u.0 k rest (λ n. refl) u.1 u.2
+    | inr w ↦ elim (when_cases (word_at (codes "stats ") bytes) _ _ _ w.1) [
+      | inl u ↦ key_found (codes "stats ") (λ key. record { key = key; call = call.Count }) bytes u.0 k rest (λ n. refl) u.1 u.2
+      | inr x ↦ cc x.1
+    ]
+  ]
+]
+
 mail_call_found : (bytes : List ℕ) (k : KeyCall) (rest : List ℕ) → mail_call_at bytes ≡ Some (k, rest) → CallIs bytes rest k
 unfolding mail_call_at
 mail_call_found bytes k rest e = elim (when_cases (word_at (codes "send ") bytes) _ _ _ e) [
@@ -93,7 +106,7 @@ mail_call_found bytes k rest e = elim (when_cases (word_at (codes "send ") bytes
     | inl u ↦ key_found (codes "receive ") (λ key. record { key = key; call = call.Receive }) bytes u.0 k rest (λ n. refl) u.1 u.2
     | inr w ↦ elim (when_cases (word_at (codes "spawn ") bytes) _ _ _ w.1) [
       | inl u ↦ key_found (codes "spawn ") (λ key. record { key = key; call = call.Spawn }) bytes u.0 k rest (λ n. refl) u.1 u.2
-      | inr x ↦ cc x.1
+      | inr x ↦ look_call_found bytes k rest x.1
     ]
   ]
 ]
@@ -146,7 +159,7 @@ three_again : (word : List ℕ) (key a b d : ℕ) (c : Call)
 three_again word key a b d c e = ap call_at (sym (four_parts word (decimal key) (codes " ") (decimal a) (codes " ") (decimal b) (codes " ") (decimal d) [])) ∙ e
 
 call_again : (key : ℕ) (c : Call) → key < 2 ^ 64 → FitsCall c → IsRead (call_text key c ++ []) key c
-unfolding call_at token_call_at mail_call_at
+unfolding call_at token_call_at mail_call_at look_call_at
 call_again key (call.Open a) k f =
     one_again (codes "open ") key a (call.Open a) (rw (number_again key (codes " " ++ (decimal a ++ [])) k refl, number_again a [] f refl) refl)
 call_again key (call.Beat a) k f =
@@ -157,6 +170,10 @@ call_again key (call.Acquire a) k f =
     one_again (codes "acquire ") key a (call.Acquire a) (rw (number_again key (codes " " ++ (decimal a ++ [])) k refl, number_again a [] f refl) refl)
 call_again key (call.Release a) k f =
     one_again (codes "release ") key a (call.Release a) (rw (number_again key (codes " " ++ (decimal a ++ [])) k refl, number_again a [] f refl) refl)
+call_again key (call.Try a) k f =
+    one_again (codes "try ") key a (call.Try a) (rw (number_again key (codes " " ++ (decimal a ++ [])) k refl, number_again a [] f refl) refl)
+call_again key call.Owner k f = rw (number_again key [] k refl) refl
+call_again key call.Count k f = rw (number_again key [] k refl) refl
 call_again key (call.Bucket a b) k f =
     two_again (codes "bucket ") key a b (call.Bucket a b)
     (rw (number_again key (codes " " ++ (decimal a ++ (codes " " ++ (decimal b ++ [])))) k refl, number_again a (codes " " ++ (decimal b ++ [])) f.0 refl, number_again b [] f.1 refl) refl)

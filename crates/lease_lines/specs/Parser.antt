@@ -15,11 +15,17 @@ abbrev pub three_at : List ℕ → Read (ℕ × ℕ × ℕ × ℕ)
 three_at bytes =
     then_read (number_at bytes) (λ key r. then_read (behind_at r) (λ a r. then_read (behind_at r) (λ b r. mapped (λ c. (key, a, b, c)) (behind_at r))))
 
+unfoldable pub look_call_at : List ℕ → Read KeyCall
+look_call_at bytes =
+    when (word_at (codes "try ") bytes) (λ r. mapped (λ n. record { key = n.0; call = call.Try n.1 }) (one_at r))
+    (when (word_at (codes "owner ") bytes) (λ r. mapped (λ key. record { key = key; call = call.Owner }) (number_at r))
+    (when (word_at (codes "stats ") bytes) (λ r. mapped (λ key. record { key = key; call = call.Count }) (number_at r)) None))
+
 unfoldable pub mail_call_at : List ℕ → Read KeyCall
 mail_call_at bytes =
     when (word_at (codes "send ") bytes) (λ r. mapped (λ n. record { key = n.0; call = call.Send n.1 n.2 n.3 }) (three_at r))
     (when (word_at (codes "receive ") bytes) (λ r. mapped (λ key. record { key = key; call = call.Receive }) (number_at r))
-    (when (word_at (codes "spawn ") bytes) (λ r. mapped (λ key. record { key = key; call = call.Spawn }) (number_at r)) None))
+    (when (word_at (codes "spawn ") bytes) (λ r. mapped (λ key. record { key = key; call = call.Spawn }) (number_at r)) (look_call_at bytes)))
 
 unfoldable pub token_call_at : List ℕ → Read KeyCall
 token_call_at bytes =

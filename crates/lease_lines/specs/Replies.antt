@@ -12,6 +12,7 @@ use Rattle.mono_actor.specs.declared.answers.Sent.{Sent}
 use Rattle.mono_actor.specs.declared.answers.Sent.TheVariants as sent
 use Rattle.mono_actor.specs.declared.answers.Got.{Got}
 use Rattle.mono_actor.specs.declared.answers.Got.TheVariants as got
+use Rattle.lease_core.specs.declared.requests.Counts.{Counts}
 use Rattle.lease_core.specs.declared.requests.Outcome.{Outcome}
 use Rattle.lease_core.specs.declared.requests.Outcome.TheVariants as outcome
 use Rattle.lease_core.specs.declared.requests.Reply.{Reply}
@@ -54,6 +55,9 @@ abbrev pub got_text : ℕ → Got ℕ → List ℕ
 got_text a (got.Message from message) = codes "message " ++ decimal a ++ codes " " ++ decimal from ++ codes " " ++ decimal message
 got_text a got.Timeout = codes "timeout " ++ decimal a
 
+abbrev pub counts_text : Counts → List ℕ
+counts_text counts = codes "stats " ++ decimal counts.sessions ++ codes " " ++ decimal counts.entries ++ codes " " ++ decimal counts.actors ++ codes " " ++ decimal counts.waiting
+
 abbrev pub outcome_text : Outcome → List ℕ
 outcome_text (outcome.Opened s) = codes "session " ++ decimal s
 outcome_text outcome.Done = codes "ok"
@@ -61,6 +65,10 @@ outcome_text outcome.Held = codes "held"
 outcome_text outcome.Left = codes "left"
 outcome_text outcome.Closed = codes "closed"
 outcome_text outcome.Ended = codes "ended"
+outcome_text outcome.Busy = codes "busy"
+outcome_text (outcome.Owned s) = codes "owner " ++ decimal s
+outcome_text outcome.Free = codes "free"
+outcome_text (outcome.Counted counts) = counts_text counts
 outcome_text (outcome.Added b) = codes "bucket " ++ decimal b
 outcome_text (outcome.Took t) = take_text t
 outcome_text (outcome.Spawned a) = codes "actor " ++ decimal a

@@ -1,6 +1,6 @@
 // The reader of a request's call.
 ghost use Rattle.mono_text.specs.Parser.{Gives};
-ghost use Rattle.lease_lines.specs.Parser.{one_at, two_at, three_at, token_call_at, mail_call_at, call_at};
+ghost use Rattle.lease_lines.specs.Parser.{one_at, two_at, three_at, token_call_at, mail_call_at, look_call_at, call_at};
 
 use lease_core::Call;
 use mono_text::Reader;
@@ -42,7 +42,36 @@ fn three(reader: &mut Reader) -> Option<(u64, u64, u64, u64)>
     Some((key, first, second, third))
 }
 
-// Reads a call on the mailboxes.
+// Reads a try, or a question.
+#[tactic(auto, unfolding(crate::specs::Parser::look_call_at))]
+fn look_call(reader: &mut Reader) -> Option<KeyCall>
+    ensures { Gives result reader.new.rest.now (look_call_at reader.old.rest.now) }
+{
+    if reader.take(b"try ".as_slice()) {
+        let (key, session) = one(reader)?;
+        return Some(KeyCall {
+            key,
+            call: Call::Try(session),
+        });
+    }
+    if reader.take(b"owner ".as_slice()) {
+        let key = reader.number()?;
+        return Some(KeyCall {
+            key,
+            call: Call::Owner,
+        });
+    }
+    if reader.take(b"stats ".as_slice()) {
+        let key = reader.number()?;
+        return Some(KeyCall {
+            key,
+            call: Call::Count,
+        });
+    }
+    None
+}
+
+// Reads a call on the mailboxes, a try, or a question.
 #[tactic(auto, unfolding(crate::specs::Parser::mail_call_at))]
 fn mail_call(reader: &mut Reader) -> Option<KeyCall>
     ensures { Gives result reader.new.rest.now (mail_call_at reader.old.rest.now) }
@@ -68,10 +97,10 @@ fn mail_call(reader: &mut Reader) -> Option<KeyCall>
             call: Call::Spawn,
         });
     }
-    None
+    look_call(reader)
 }
 
-// Reads a call on the buckets or the mailboxes.
+// Reads a call that is not one of the five on the leases.
 #[tactic(auto, unfolding(crate::specs::Parser::token_call_at))]
 fn token_call(reader: &mut Reader) -> Option<KeyCall>
     ensures { Gives result reader.new.rest.now (token_call_at reader.old.rest.now) }

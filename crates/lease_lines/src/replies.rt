@@ -1,9 +1,9 @@
 // Replies as lines.
 ghost use Rattle.std.specs.Prelude.{◌≡◌, ◌++◌, ◌∷◌, [], IfOk, OnOk, decimal};
-ghost use Rattle.lease_lines.specs.Replies.{take_text, sent_text, got_text, outcome_text, stamp_text, reply_text, reply_lines, bad_text};
+ghost use Rattle.lease_lines.specs.Replies.{take_text, sent_text, got_text, counts_text, outcome_text, stamp_text, reply_text, reply_lines, bad_text};
 
 use crate::causes::{lease_cause, limit_cause, mail_cause};
-use lease_core::{Outcome, Reply};
+use lease_core::{Counts, Outcome, Reply};
 use mono_actor::{Got, Sent};
 use mono_limit::Take;
 use mono_text::{put_nanos, put_number, put_pair, put_word};
@@ -59,6 +59,15 @@ fn put_got(out: &mut Vec<u8>, actor: u64, got: Got<u64>) -> Result<(), AllocErro
     }
 }
 
+fn put_counts(out: &mut Vec<u8>, counts: Counts) -> Result<(), AllocError>
+    ensures { OnOk result (out.new.items ≡ out.old.items ++ counts_text counts ++ 10 ∷ []) }
+{
+    put_pair(out, b"stats ".as_slice(), counts.sessions)?;
+    put_pair(out, b" ".as_slice(), counts.entries)?;
+    put_pair(out, b" ".as_slice(), counts.actors)?;
+    end_with(out, b" ".as_slice(), counts.waiting)
+}
+
 // Appends an answer, and ends the line.
 fn put_outcome(out: &mut Vec<u8>, outcome: Outcome) -> Result<(), AllocError>
     ensures { OnOk result (out.new.items ≡ out.old.items ++ outcome_text outcome ++ 10 ∷ []) }
@@ -70,6 +79,10 @@ fn put_outcome(out: &mut Vec<u8>, outcome: Outcome) -> Result<(), AllocError>
         Outcome::Left => put_word(out, b"left\n".as_slice()),
         Outcome::Closed => put_word(out, b"closed\n".as_slice()),
         Outcome::Ended => put_word(out, b"ended\n".as_slice()),
+        Outcome::Busy => put_word(out, b"busy\n".as_slice()),
+        Outcome::Owned(session) => end_with(out, b"owner ".as_slice(), session),
+        Outcome::Free => put_word(out, b"free\n".as_slice()),
+        Outcome::Counted(counts) => put_counts(out, counts),
         Outcome::Added(bucket) => end_with(out, b"bucket ".as_slice(), bucket),
         Outcome::Took(take) => put_take(out, take),
         Outcome::Spawned(actor) => end_with(out, b"actor ".as_slice(), actor),

@@ -8,7 +8,7 @@ use Rattle.lease_core.specs.declared.requests.Call.{Call}
 use Rattle.lease_core.specs.declared.requests.Call.TheVariants as call
 use Rattle.lease_core.specs.declared.requests.Request.{Request}
 use Rattle.lease_lines.specs.Lines.{call_text, SpellsNone}
-use Rattle.lease_lines.specs.Parser.{call_at, token_call_at, mail_call_at}
+use Rattle.lease_lines.specs.Parser.{call_at, token_call_at, mail_call_at, look_call_at}
 use Rattle.lease_lines.proofs.SpellingLemmas.{none_line}
 use Rattle.lease_lines.specs.Replies.{bad_text}
 use Rattle.lease_server.specs.Routing.{Ask, HasNoFeed}
@@ -26,7 +26,7 @@ open_text =
     sym (ap (λ (d : List ℕ). codes "open " ++ d ++ codes " " ++ decimal 9) (decimal_digit 4 (lit< tt)) ∙ ap (λ (d : List ℕ). codes "open " ++ 52 ∷ [] ++ codes " " ++ d) (decimal_digit 9 (lit< tt)))
 
 bad_spells_none : SpellsNone (codes "bad")
-unfolding call_at token_call_at mail_call_at
+unfolding call_at token_call_at mail_call_at look_call_at
 bad_spells_none = none_line (codes "bad") refl
 
 pub small_asks : SmallAsks

@@ -6,14 +6,11 @@ use crate::stations::Station;
 use crate::status;
 use mono_rt::{
     Context, Host, Instant, Poll, RemoteContext, RemoteWaker, SharedContext, Sleep, TaskFuture,
-    TimeContext, UnparkHandle, sleep,
+    TimeContext, UnparkHandle, sleep_until,
 };
 use std::alloc::{AllocError, Global};
 use std::mem;
 use std::time::Duration;
-
-// How long a core with waiting acquires sleeps before it looks at the clock, in milliseconds.
-const NAP: u64 = 1;
 
 /// A task that performs the requests that come to the shared station, and sends the text of the replies. It answers a
 /// status once the requests have ended, each was answered and all text was sent.
@@ -28,8 +25,7 @@ impl CoreTask {
         CoreTask { nap: None }
     }
 
-    // Sleeps for a while if an acquire waits, so that it is answered soon after a session closes. A sleep that cannot be
-    // made is made in a later turn.
+    // Sleeps until a session may close, if an acquire waits.
     fn rest<C: TimeContext + SharedContext<Station>, R: Host>(
         &mut self,
         rt: &R,
@@ -41,30 +37,53 @@ impl CoreTask {
         if cx.shared().waiting() == 0 {
             return;
         }
-        match mem::replace(&mut self.nap, None) {
-            Some(nap) => self.doze(rt, alloc, cx, nap),
-            None => self.lie_down(rt, alloc, cx),
+        if let Some(tick) = cx.shared().next_close() {
+            let end = Instant::ZERO.saturating_add(Duration::from_millis(tick));
+            self.rest_until(rt, alloc, cx, end);
         }
     }
 
-    // Makes a sleep, and waits for it.
-    fn lie_down<C: TimeContext, R: Host>(&mut self, rt: &R, alloc: Global, cx: &mut C)
+    // Sleeps until an instant.
+    fn rest_until<C: TimeContext, R: Host>(
+        &mut self,
+        rt: &R,
+        alloc: Global,
+        cx: &mut C,
+        end: Instant,
+    )
         ensures { C.reaches cx.old cx.new }
     {
-        if let Ok(nap) = sleep(alloc, cx, Duration::from_millis(NAP)) {
-            self.doze(rt, alloc, cx, nap);
+        match mem::replace(&mut self.nap, None) {
+            Some(nap) => self.doze(rt, alloc, cx, nap, end),
+            None => self.lie_down(rt, alloc, cx, end),
         }
     }
 
-    // Waits for this sleep, and arms it anew if it has elapsed.
-    fn doze<C: TimeContext, R: Host>(&mut self, rt: &R, alloc: Global, cx: &mut C, nap: Sleep)
+    // Makes a sleep, and waits for it. If it cannot be made, the task runs again at once, and makes it then.
+    fn lie_down<C: TimeContext, R: Host>(&mut self, rt: &R, alloc: Global, cx: &mut C, end: Instant)
+        ensures { C.reaches cx.old cx.new }
+    {
+        match sleep_until(alloc, cx, end) {
+            Ok(nap) => self.doze(rt, alloc, cx, nap, end),
+            Err(_) => again(cx),
+        }
+    }
+
+    // Waits for this sleep, until this instant.
+    fn doze<C: TimeContext, R: Host>(
+        &mut self,
+        rt: &R,
+        alloc: Global,
+        cx: &mut C,
+        nap: Sleep,
+        end: Instant,
+    )
         ensures { C.reaches cx.old cx.new }
     {
         let mut nap = nap;
+        let _ = nap.reset(cx, end);
         if let Poll::Ready(_) = nap.poll(rt, alloc, cx) {
-            let next = Instant::now(cx).saturating_add(Duration::from_millis(NAP));
-            let _ = nap.reset(cx, next);
-            let _ = nap.poll(rt, alloc, cx);
+            again(cx);
         }
         self.nap = Some(nap);
     }

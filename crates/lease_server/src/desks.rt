@@ -2,7 +2,10 @@
 ghost use Rattle.std.specs.Prelude.{◌≡◌, ◌∷◌, [], length, IfOk, OnOk};
 ghost use Rattle.mono_time.specs.Instants.{nanos_of};
 ghost use Rattle.lease_core.specs.Steps.{Advance, Handle, Finish};
+ghost use Rattle.lease_core.specs.Cores.{CoreState};
+ghost use Rattle.lease_core.specs.Refinement.{Refines};
 ghost use Rattle.lease_core.specs.Waiting.{waits_of};
+ghost use Rattle.mono_session.specs.Expirations.{IsInTime};
 ghost use Rattle.lease_server.specs.Pasts.{events_of, replies_of};
 ghost use Rattle.lease_server.specs.Served.{Performs, Serves};
 ghost use Rattle.lease_server.specs.Texts.{said_by};
@@ -42,6 +45,13 @@ impl Desk {
         ensures { result ≡ length (waits_of self.now.core.waiting) }
     {
         self.core.waiting()
+    }
+
+    /// Returns the next tick at which the clock may close a session, as [`Core::next_close`] does.
+    pub fn next_close(&self) -> Option<u64>
+        ensures { (s : CoreState) → Refines self.now.core s → IsInTime s.keeper result }
+    {
+        self.core.next_close()
     }
 
     /// Shows the core's clock an instant, and appends the lines of the replies. Returns the stamp of the replies that

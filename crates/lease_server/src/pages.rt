@@ -21,6 +21,9 @@ requests, and their answers; all numbers are below 2^64, and the key KEY decides
   close KEY SESSION          ok
   acquire KEY SESSION        held, once the session holds the lock of the key; or left, closed or ended
   release KEY SESSION        ok
+  try KEY SESSION            held, if no session holds the lock; else busy, and the session does not wait
+  owner KEY                  owner SESSION, which holds the lock; or free
+  stats KEY                  stats SESSIONS ENTRIES ACTORS WAITS: how much there is in the core
   bucket KEY BURST PERIOD    bucket BUCKET: at most BURST tokens, one more every PERIOD milliseconds
   take KEY BUCKET COUNT      granted, or short TICK: it has the tokens at that tick
   spawn KEY                  actor ACTOR

@@ -2,7 +2,10 @@
 ghost use Rattle.std.specs.Prelude.{◌≡◌, ◌++◌, true, false, length, None, IfOk};
 ghost use Rattle.mono_time.specs.Instants.{nanos_of};
 ghost use Rattle.mono_channel.specs.Ends.{sent_by, received_by};
+ghost use Rattle.lease_core.specs.Cores.{CoreState};
+ghost use Rattle.lease_core.specs.Refinement.{Refines};
 ghost use Rattle.lease_core.specs.Waiting.{waits_of};
+ghost use Rattle.mono_session.specs.Expirations.{IsInTime};
 ghost use Rattle.lease_server.specs.declared.stations.Stage.TheVariants.{Open};
 ghost use Rattle.lease_server.specs.Outlets.{Stays, passed};
 ghost use Rattle.lease_server.specs.Stations.{Leads, leads_itself, leads_on, Works, Turns, IsDone, stage_of};
@@ -90,6 +93,13 @@ impl Station {
         ensures { result ≡ length (waits_of self.now.desk.core.waiting) }
     {
         self.desk.waiting()
+    }
+
+    /// Returns the next tick at which the clock may close a session, and so end a wait, as [`Desk::next_close`] does.
+    pub fn next_close(&self) -> Option<u64>
+        ensures { (s : CoreState) → Refines self.now.desk.core s → IsInTime s.keeper result }
+    {
+        self.desk.next_close()
     }
 
     // Returns whether the core performs what comes.

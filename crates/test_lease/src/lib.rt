@@ -9,3 +9,5 @@ mod cores;
 mod crowds;
 #[cfg(test)]
 mod lines;
+#[cfg(test)]
+mod looks;

@@ -1,5 +1,5 @@
 // The lines of requests and replies.
-use lease_core::{Call, Outcome, Reply, Request};
+use lease_core::{Call, Counts, Outcome, Reply, Request};
 use lease_lines::{Stamp, put_bad, put_replies, put_reply, request_of};
 use mono_actor::{ActorError, Got, Sent};
 use mono_limit::{LimitError, Take};
@@ -29,6 +29,9 @@ fn each_request_is_read(rt: HostRuntime) {
         )
     );
     assert!(rt; says(b"release 7 3".as_slice(), 7, Call::Release(3)));
+    assert!(rt; says(b"try 7 3".as_slice(), 7, Call::Try(3)));
+    assert!(rt; says(b"owner 7".as_slice(), 7, Call::Owner));
+    assert!(rt; says(b"stats 7".as_slice(), 7, Call::Count));
     assert!(rt; says(b"bucket 7 5 10".as_slice(), 7, Call::Bucket(5, 10)));
     assert!(rt; says(b"take 7 0 2".as_slice(), 7, Call::Take(0, 2)));
     assert!(rt; says(b"spawn 7".as_slice(), 7, Call::Spawn));
@@ -49,6 +52,9 @@ fn other_lines_are_no_request(rt: HostRuntime) {
         b"spawn 7 1".as_slice(),
         b"receive 7\n".as_slice(),
         b"bea 7 1".as_slice(),
+        b"try 7".as_slice(),
+        b"owner 7 1".as_slice(),
+        b"stats".as_slice(),
     ] {
         assert!(rt; request_of(1, line).is_none());
     }
@@ -169,6 +175,27 @@ fn each_reply_has_its_words(rt: HostRuntime) {
             alloc,
             Outcome::MailRefused(ActorError::Idle),
             b" refused idle\n".as_slice()
+        )
+    );
+}
+
+#[test]
+fn each_answer_to_a_question_has_its_words(rt: HostRuntime) {
+    let alloc = rt.alloc();
+    let counts = Counts {
+        sessions: 1,
+        entries: 2,
+        actors: 3,
+        waiting: 4,
+    };
+    assert!(rt; ends_with(alloc, Outcome::Busy, b" busy\n".as_slice()));
+    assert!(rt; ends_with(alloc, Outcome::Owned(7), b" owner 7\n".as_slice()));
+    assert!(rt; ends_with(alloc, Outcome::Free, b" free\n".as_slice()));
+    assert!(rt;
+        ends_with(
+            alloc,
+            Outcome::Counted(counts),
+            b" stats 1 2 3 4\n".as_slice()
         )
     );
 }

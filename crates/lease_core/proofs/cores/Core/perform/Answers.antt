@@ -15,6 +15,15 @@ returns-in-Acquire c = rw c.in-Acquire.is c.acquire.ensures
 pub returns-in-Release : goal.returns-in-Release
 returns-in-Release c = rw c.in-Release.is c.release.ensures
 
+pub returns-in-Try : goal.returns-in-Try
+returns-in-Try c = rw c.in-Try.is c.attempt.ensures
+
+pub returns-in-Owner : goal.returns-in-Owner
+returns-in-Owner c = rw c.in-Owner.is c.owner.ensures
+
+pub returns-in-Count : goal.returns-in-Count
+returns-in-Count c = rw c.in-Count.is (c.count.ensures c.args.key)
+
 pub returns-in-Bucket : goal.returns-in-Bucket
 returns-in-Bucket c = rw c.in-Bucket.is (c.bucket.ensures c.args.key)
 
