@@ -4,9 +4,9 @@
 usage: tools/draw.py < JOURNAL > PICTURE.svg
 
 Each task has a lane with its turns and, between them, what it waits for. The clock is the last lane, with parks and clock
-steps. An arrow is a wake: from the task that woke, or from the clock. A turn names the jobs that it made or saw end. The
-places from left to right are those of the journal, so that what happens at one instant stands apart. In a wide picture the
-names come again. For more than some 40 events, see tools/view.py.
+steps. An arrow is a wake: from the task that woke, or from the clock; a dashed line with a ball is a spawn. A turn names the
+jobs that it made or saw end. The places from left to right are those of the journal, so that what happens at one instant stands
+apart. In a wide picture the names come again. A journal of more than 100 events and parks is for tools/view.py.
 """
 import collections
 import signal
@@ -17,8 +17,9 @@ sys.dont_write_bytecode = True
 import journal
 
 COLUMN, LANE, NOTE, LEFT, TOP = 74, 62, 11, 70, 34
-# So many columns lie between two names of a lane.
-NAMES_APART = 12
+# How many columns lie between two names of a lane, and how many a picture has at most.
+NAMES_APART, MOST = 12, 100
+WAKE, SPAWN = "#b02a30", "#1f8a4c"
 COLOURS = {"sleep": "#2b7bba", "task": "#8a4fb3", "job": "#c46a1b"}
 
 
@@ -103,9 +104,12 @@ class Picture:
         if begin == end:
             return
         shift = 12 if begin < end else -12
+        how = f'stroke="{WAKE}" marker-end="url(#tip)"'
+        if wake.text == "spawn":
+            how = f'stroke="{SPAWN}" stroke-dasharray="4 3" marker-end="url(#ball)"'
         self.parts.append(
-            f'<line x1="{x:g}" y1="{begin + shift:g}" x2="{x:g}" y2="{end - shift:g}" stroke="#b02a30" '
-            f'marker-end="url(#tip)"><title>{escape(wake.text)}</title></line>'
+            f'<line x1="{x:g}" y1="{begin + shift:g}" x2="{x:g}" y2="{end - shift:g}" {how}>'
+            f"<title>{escape(wake.text)}</title></line>"
         )
 
     def svg(self):
@@ -128,7 +132,9 @@ class Picture:
         return "\n".join([
             f'<svg xmlns="http://www.w3.org/2000/svg" width="{self.width():g}" height="{height:g}" font-family="sans-serif">',
             '<defs><marker id="tip" markerWidth="7" markerHeight="7" refX="6" refY="3" orient="auto">'
-            '<path d="M0,0 L6,3 L0,6 z" fill="#b02a30"/></marker></defs>',
+            f'<path d="M0,0 L6,3 L0,6 z" fill="{WAKE}"/></marker>'
+            '<marker id="ball" markerWidth="7" markerHeight="7" refX="3" refY="3">'
+            f'<circle cx="3" cy="3" r="3" fill="{SPAWN}"/></marker></defs>',
             f'<rect width="{self.width():g}" height="{height:g}" fill="#ffffff"/>',
             *self.parts,
             "</svg>",
@@ -139,7 +145,10 @@ def main():
     if len(sys.argv) > 1:
         sys.exit(__doc__.strip())
     signal.signal(signal.SIGPIPE, signal.SIG_DFL)  # a reader that closes the pipe ends the program
-    print(Picture(journal.Journal(sys.stdin)).svg())
+    of = journal.Journal(sys.stdin)
+    if of.place > MOST:
+        sys.exit(f"a picture has at most {MOST} events and parks, and this journal has {of.place}: tools/view.py shows it")
+    print(Picture(of).svg())
 
 
 if __name__ == "__main__":

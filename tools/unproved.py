@@ -4,7 +4,7 @@
 usage: tools/unproved.py PROGRAM [WORD ..] < INPUT
 
 The program with these words reads the input. What rt built is kept as PROGRAM; it checks each step as it runs, so it is
-slower than a proved one. The lines that rt writes about its two runs are said in plain words, unless a run failed. The
+slower than a proved one. The lines that rt writes about its runs are said in plain words, unless a run failed. The
 status is that of rt.
 """
 import os
@@ -48,11 +48,13 @@ def pass_on(source, to, about):
 
 
 def say(about):
-    """Says in plain words how the two runs ended; if they did not end alike, in those of rt."""
-    ended = re.search(r"^run=ended status=(\d+) runners=2\b", "".join(about), re.M)
+    """Says in plain words how the runs ended; if one failed, in those of rt."""
+    ended = re.search(r"^run=ended status=(\d+) runners=([12])\b", "".join(about), re.M)
     if ended:
-        print("This was the output of the program. It ran twice, interpreted and built with a check of each step, and both "
-              f"runs ended with status {ended[1]}. Nothing is proved yet: `make build` does that.")
+        runs = ["It was built with a check of each step, and",
+                "It ran twice, interpreted and built with a check of each step, and both runs"][int(ended[2]) - 1]
+        print(f"This was the output of the program. {runs} ended with status {ended[1]}. Nothing is proved yet: "
+              "`make build` does that.")
     else:
         sys.stderr.write("".join(about))
 

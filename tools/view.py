@@ -25,11 +25,14 @@ CLOCK, INBOX, OUTSIDE = -1, -2, -3
 
 
 def rows_of(bars):
-    """Gives each bar, a list of first and last place and text, the first row in which it lies on no other."""
+    """Gives each bar, a list of first and last place and text, the first row in which it lies on no other.
+
+    A bar ends where its last place begins; one of a single place fills it.
+    """
     ends, found = [], []
     for first, last, text in sorted(bars):
-        row = next((row for row, end in enumerate(ends) if end < first), len(ends))
-        ends[row:row + 1] = [last]
+        row = next((row for row, end in enumerate(ends) if end <= first), len(ends))
+        ends[row:row + 1] = [max(last, first + 1)]
         found.append([first, last, row, text])
     return found
 

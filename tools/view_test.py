@@ -3,15 +3,16 @@
 
 usage: tools/view_test.py [PICTURE.png]
 
-Four pages: a journal with a lost wake and the list of tasks, that list alone, replies of the lease server, and a journal of
-100,000 lines. The last has to open within 2 seconds and to draw 60 frames in a second. Both are counted in processor time of
-the page's main thread, which other programs do not lengthen. With a word, a picture of that page is kept.
+Six pages: a journal with a lost wake and the list of tasks, that list alone, replies of the lease server on one core and on
+two, and two journals of tools/made_journal.py. The first of those has each mark: names, lanes, waits, wakes, spawns, parks,
+clock steps, jobs and reasons are looked at in its picture and its panel. The last has 100,000 lines; it has to open within 2
+seconds and to draw 60 frames in a second. Both are counted in processor time of the page's main thread, which other programs do
+not lengthen. With a word, a picture of that page is kept.
 """
 import glob
 import http.server
 import json
 import os
-import random
 import shutil
 import subprocess
 import sys
@@ -20,6 +21,7 @@ import threading
 
 sys.dont_write_bytecode = True
 import below
+import made_journal
 import view
 
 BROWSERS = ["chromium", "chromium-browser", "google-chrome"]
@@ -35,52 +37,16 @@ park
 drain -> drained
 drop-join 0 -> dropped
 """
+CORES = """1 0 0 0 session 0
+2 1 0 3 held
+3 bad
+5 0 4 9 queued
+4 1 2 12 left
+"""
 LIST = """monoio: the run had no turn left; the output is what it did
 monoio: task 0 waits for task 1
 monoio: task 1 waits for nothing: stuck
 """
-
-
-class Machine:
-    """A small run of tasks that sleep, as lines of a journal. A round serves the queue; then the clock moves on."""
-
-    def __init__(self, tasks, seed):
-        self.lines, self.draw = ["spawn -> task 0"], random.Random(seed)
-        self.nanos, self.sleeps, self.armed = 0, 0, {}
-        self.queue, self.tasks = [0], tasks
-
-    def run(self, lines):
-        while len(self.lines) < lines:
-            for task in self.queue:
-                self.turn(task)
-            self.queue = []
-            self.park()
-        return self.lines[:lines]
-
-    def turn(self, task):
-        steps, replies = [], []
-        if task == 0 and not self.sleeps:
-            steps += ["spawn"] * self.tasks
-            replies += [f"task {number}" for number in range(1, self.tasks + 1)]
-            self.queue += range(1, self.tasks + 1)
-        for sleep in [sleep for sleep, (_, owner) in self.armed.items() if owner == task]:
-            del self.armed[sleep]
-            steps += [f"poll {sleep}", f"drop-sleep {sleep}"]
-            replies += ["ready", "dropped"]
-        until = self.nanos + 1000000 * self.draw.randrange(1, 400)
-        steps += [f"sleep {until}", f"poll {self.sleeps}", "pending"]
-        replies += [f"sleep {self.sleeps}", "pending", "idle"]
-        self.armed[self.sleeps] = (until, task)
-        self.sleeps += 1
-        self.lines += [f"now {self.nanos}", f"{'; '.join(['turn', *steps])} -> {'; '.join([f'turn {task}', *replies])}"]
-
-    def park(self):
-        until = min(until for until, _ in self.armed.values())
-        fired = [sleep for sleep, (at, _) in self.armed.items() if at == until]
-        self.lines += [f"now {self.nanos}", f"park {(until - self.nanos) // 1000000}", "drain -> drained"]
-        self.nanos = until
-        self.lines.append(f"clock {until} -> {' '.join(['fired', *map(str, fired)])}")
-        self.queue = [self.armed[sleep][1] for sleep in fired]
 
 
 def read(path):
@@ -173,7 +139,7 @@ def keep_picture(browser, text, picture):
         path = os.path.join(home, "page.html")
         with open(path, "w", encoding="utf-8") as file:
             file.write(text)
-        address = f"file://{path}#line=49999&zoom=14"
+        address = f"file://{path}#line=47410&task=1&zoom=19"
         start(browser, home, f"--screenshot={os.path.abspath(picture)}", address).wait()
 
 
@@ -190,11 +156,13 @@ def main():
     browser = next(filter(None, map(shutil.which, BROWSERS)), None) or sys.exit("no Chromium: apt-get install chromium")
     with open(os.path.join(below.TOP, "crates", "lease_server", "stdout"), encoding="utf-8") as file:
         replies = file.readlines()
-    large = view.page(Machine(60, 1).run(100000), "100,000 lines")
+    large = view.page(made_journal.Machine(60, 1).run(100000), "100,000 lines")
     pages = {
         "lost": view.page((LOST + LIST).splitlines(), "a lost wake"),
         "list": view.page(LIST.splitlines(), "a list of tasks"),
         "lease": view.page(replies, "replies"),
+        "cores": view.page(CORES.splitlines(), "replies of two cores"),
+        "parts": view.page(made_journal.Machine(12, 2).run(3000), "3,000 lines"),
         "frames": large,
     }
     is_right = True

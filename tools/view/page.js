@@ -8,7 +8,7 @@ const [MADE, RESET, PENDING, READY, ENDED, DROPPED] = [0, 1, 2, 3, 4, 5];
 const [CLOCK, INBOX] = [-1, -2];
 const SPAWN = 1;
 const NAMES = 96, RULER = 20, CLOCK_ROW = 34, INBOX_ROW = 22, TOP = RULER + CLOCK_ROW + INBOX_ROW, STRIP = 34;
-const LANE = 38, ROW = 14, BOX = 46;
+const LANE = 38, ROW = 14, BARS = 56, BOX = 46;
 const PALETTES = {
   light: {
     ground: "#ffffff", band: "#f7f8f9", text: "#1c1f23", dim: "#5f6771", line: "#d5d9de", turn: "#f2d388", edge: "#7a6128",
@@ -176,10 +176,13 @@ function scroll(pixels) {
 
 const rowsOf = (lane) => (view.jobs ? data.lanes[lane].bars.reduce((most, bar) => Math.max(most, bar[2] + 1), 0) : 0);
 
+// The bars of a lane are lower if there are more of them at one place.
+const rowHeight = (lane) => limited(Math.floor(BARS / Math.max(rowsOf(lane), 1)), 2, ROW);
+
 function showLanes(lanes) {
   view.lanes = lanes;
   view.tops = [0];
-  lanes.forEach((lane) => view.tops.push(view.tops[view.tops.length - 1] + LANE + ROW * rowsOf(lane)));
+  lanes.forEach((lane) => view.tops.push(view.tops[view.tops.length - 1] + LANE + rowHeight(lane) * rowsOf(lane)));
   view.rowOf = new Map(lanes.map((lane, row) => [lane, row]));
   keepInside();
   dirty();
@@ -248,6 +251,7 @@ class Row {
 
   end() {
     if (this.colour) box(this.left, this.y, this.right - this.left, this.height, this.colour);
+    this.colour = null;
   }
 }
 
@@ -326,11 +330,11 @@ function drawLane(lane, y, height) {
     box(x, y + 13, width, 18, isEnd ? palette.end : palette.turn, palette.edge);
     if (width > 28) words(String(lineOf(place)), x + 3, y + 26, palette.text, width);
   });
-  if (view.jobs) drawBars(bars, y + LANE - 4);
+  if (view.jobs) drawBars(bars, y + LANE - 4, rowHeight(lane));
 }
 
 // The bars of jobs overlap in places, so each row is looked at by itself.
-function drawBars(bars, y) {
+function drawBars(bars, y, height) {
   const low = placeAt(NAMES), high = placeAt(view.width), until = [];
   for (const [begin, end, row, name] of bars) {
     if (begin > high) break;
@@ -338,8 +342,8 @@ function drawBars(bars, y) {
     const x = Math.max(xOf(begin), NAMES), right = Math.min(Math.max(xOf(end), xOf(begin) + widthOf(begin), x + 2), view.width);
     if (right <= (until[row] || 0)) continue;
     until[row] = right;
-    box(x, y + ROW * row, right - x, ROW - 3, view.palette.kinds[3]);
-    words(name, x + 3, y + ROW * row + 9, view.palette.ground, right - x - 4);
+    box(x, y + height * row, right - x, Math.max(height - 3, 1), view.palette.kinds[3]);
+    if (height > 11) words(name, x + 3, y + height * row + 9, view.palette.ground, right - x - 4);
   }
 }
 
