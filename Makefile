@@ -7,8 +7,8 @@
 #                    again on this machine
 #   make test        the gate: every proof, mutant, test and program; it ends in `rt ci`
 #   make examples    builds the program, and compares each example's reports, causes and exit status with those stored
-#                    beside it, and the manual page with --help; it fails if a crate use_* never gives up something that
-#                    it holds
+#                    beside it, and the manual page with --help; it fails if a crate use_* or example_* never gives
+#                    up something that it holds
 #   make pages       compiles the first Rust example of each page, and the programs that are kept as text in tools/, unproved;
 #                    the programs have to print the stored lines, and the examples what their pages say
 #   make soak        random inputs for a minute (SECONDS=n), each report checked by an independent machine; their journals
@@ -19,10 +19,12 @@
 #   make year        simulates a year of a lease server (EVENTS=100000000): its memory has to stay flat, and its answers
 #                    have to be those of a plain program, which rustc builds
 #   make bench       measures the programs next to plain Rust programs, which rustc builds, and prints the tables of
-#                    docs/PERFORMANCE.md
+#                    docs/PERFORMANCE.md; it compares the manual page docs/mono_bench.1 with --help
 #   make planted     tries the mutants of each folder planted/ on a copy (CRATE=name: of one crate)
 #   make server      proves and builds the lease server, compares its manual page with --help, runs it on two cores with a
 #                    generated load for ten seconds, checks each reply, and then does so under faults
+#   make server-quick checks the checker of the lease server, and by it the server that `make test` has built, in a minute; it
+#                    does nothing without python3
 #   make server-bench measures the lease server beside the same server on tokio; needs cargo and librust-tokio-dev
 #   make view-test   opens journals in headless Chromium by tools/view.py, as a user does: the stuck task of a lost wake is
 #                    found, and 100,000 lines open and move as they should; needs chromium
@@ -35,7 +37,7 @@ SECONDS = 60
 SIZE =
 EVENTS = 100000000
 
-.PHONY: help run build has-rt has-rustc test examples pages soak soak-threads year try bench planted gate-times build-server server server-bench view-test
+.PHONY: help run build has-rt has-rustc test examples pages soak soak-threads year try bench planted gate-times build-server server server-quick server-bench view-test
 
 help:
 	@sed -n 's/^#   //p' Makefile
@@ -54,7 +56,7 @@ has-rustc:
 	@command -v rustc > /dev/null || { echo 'rustc is missing: it builds the plain Rust programs of tools/bench'; exit 1; }
 
 test: has-rt
-	@! command -v python3 > /dev/null || { python3 tools/sections.py && python3 tools/calls.py --check; }
+	@! command -v python3 > /dev/null || { python3 tools/sections.py && python3 tools/calls.py --check && python3 tools/cookbook.py --check; }
 	rt ci
 
 examples: build
@@ -71,6 +73,7 @@ examples: build
 	@python3 tools/give_up.py
 
 pages: has-rt
+	@python3 tools/cookbook.py --check
 	@python3 tools/pages.py
 	@python3 tools/build.py --try mono_bench
 	@python3 tools/build.py --try test_out_of_memory
@@ -96,6 +99,7 @@ try: has-rt
 
 bench: has-rustc build
 	@python3 tools/build.py mono_bench
+	@python3 tools/help_page.py bin/mono_bench
 	@python3 tools/bench/run.py bin/monoio bin/mono_bench $(SIZE)
 
 planted: has-rt
@@ -112,9 +116,17 @@ build-server: has-rt
 	@python3 tools/build.py lease_server
 
 server: build-server
-	@python3 tools/server/page.py bin/lease_server
+	@python3 tools/server/check_test.py
+	@python3 tools/help_page.py bin/lease_server
 	python3 tools/server/run.py bin/lease_server 10
 	python3 tools/server/faults.py bin/lease_server
+
+BUILT = crates/lease_server/out/lease_server
+
+server-quick:
+	@! command -v python3 > /dev/null || python3 tools/server/check_test.py
+	@! command -v python3 > /dev/null || [ ! -x $(BUILT) ] || { python3 tools/server/run.py $(BUILT) 7 && \
+	    python3 tools/server/faults.py $(BUILT) hostile quiet reader end failed; }
 
 server-bench: build-server
 	tools/server/build_peer.sh bin
