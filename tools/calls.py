@@ -112,15 +112,16 @@ def head_of(lines, at):
 
 
 def clauses_from(lines, at):
-    """The names of the clauses, and of the requirements, that follow a signature."""
-    ensures, requires = [], []
+    """The names of the clauses, and of the requirements, that follow a signature. A clause may take several lines."""
+    ensures, requires, depth = [], [], 0
     while at < len(lines):
         text = lines[at].strip()
         clause = re.match(r"(ensures|requires)\b\s*(\w*)\s*\{", text)
-        if clause:
+        if depth == 0 and clause:
             (ensures if clause[1] == "ensures" else requires).append(clause[2])
-        elif text in ("{", "") or not text.startswith(("ghost", "ensures", "requires")):
+        elif depth == 0 and (text in ("{", "") or not text.startswith(("ghost", "ensures", "requires"))):
             break
+        depth += text.count("{") - text.count("}")
         at += 1
     return ensures, requires
 

@@ -29,7 +29,8 @@ pub fn follow_actors<S: Source, K: Sink>(
     source: &mut S,
     sink: &mut K,
 ) -> Result<Followed, AllocError>
-    ensures followed { IfOk result (λ f. HasFollowed line_text FitsLine Answers (no_actors actors messages) f.end f.rest.items (S.left source.old) (S.left source.new) (K.written sink.old) (K.written sink.new)) }
+    ensures followed { IfOk result (λ f. HasFollowed line_text FitsLine Answers (no_actors actors messages) f.end f.rest.items
+        (S.left source.old) (S.left source.new) (K.written sink.old) (K.written sink.new)) }
     ensures none { OnErr result ((S.left source.new ≡ S.left source.old) × (K.written sink.new ≡ K.written sink.old)) }
 {
     let service: ActorService = ActorService::new(alloc, actors, messages)?;

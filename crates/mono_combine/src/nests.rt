@@ -45,7 +45,17 @@ pub fn join5<A, B, D, E, F, X, Y, Z, U, V>(
     e: E,
     f: F,
 ) -> Join5<A, B, D, E, F, X, Y, Z, U, V>
-    ensures { result ≡ record { a = MaybeDone.Future (record { a = MaybeDone.Future (record { a = MaybeDone.Future (record { a = MaybeDone.Future a; b = MaybeDone.Future b }); b = MaybeDone.Future d }); b = MaybeDone.Future e }); b = MaybeDone.Future f } }
+    ensures { result ≡ record {
+      a = MaybeDone.Future
+          (record {
+            a = MaybeDone.Future (record {
+              a = MaybeDone.Future (record { a = MaybeDone.Future a; b = MaybeDone.Future b });
+              b = MaybeDone.Future d;
+            });
+            b = MaybeDone.Future e;
+          });
+      b = MaybeDone.Future f;
+    } }
 {
     Join2::new(join4(a, b, d, e), f)
 }
@@ -101,7 +111,17 @@ pub fn try_join5<A, B, D, F, G, X, Y, Z, U, V, E>(
     f: F,
     g: G,
 ) -> TryJoin5<A, B, D, F, G, X, Y, Z, U, V, E>
-    ensures { result ≡ record { a = MaybeDone.Future (record { a = MaybeDone.Future (record { a = MaybeDone.Future (record { a = MaybeDone.Future a; b = MaybeDone.Future b }); b = MaybeDone.Future d }); b = MaybeDone.Future f }); b = MaybeDone.Future g } }
+    ensures { result ≡ record {
+      a = MaybeDone.Future
+          (record {
+            a = MaybeDone.Future (record {
+              a = MaybeDone.Future (record { a = MaybeDone.Future a; b = MaybeDone.Future b });
+              b = MaybeDone.Future d;
+            });
+            b = MaybeDone.Future f;
+          });
+      b = MaybeDone.Future g;
+    } }
 {
     TryJoin2::new(try_join4(a, b, d, f), g)
 }

@@ -92,7 +92,8 @@ impl RecordedState {
 
     /// Removes and returns the first waiting task. Returns `None` if and only if the list is empty.
     pub fn drain_one(&mut self) -> Option<u64>
-        ensures task { MatchOption result ((self.old.state.waiting ≡ []) × (self.new.state ≡ self.old.state)) (λ t. (self.old.state.waiting ≡ t ∷ self.new.state.waiting) × (self.new.state.known ≡ self.old.state.known)) }
+        ensures task { MatchOption result ((self.old.state.waiting ≡ []) × (self.new.state ≡ self.old.state))
+            (λ t. (self.old.state.waiting ≡ t ∷ self.new.state.waiting) × (self.new.state.known ≡ self.old.state.known)) }
         ensures kept { self.new.log ≡ with_entry self.old.log (DrainOne result) }
     {
         let task = self.state.drain_one();

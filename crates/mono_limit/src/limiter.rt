@@ -62,7 +62,8 @@ impl Limiter {
     /// Refuses the call as `AtCapacity` if and only if the buckets are at the limit. Otherwise it is refused as
     /// `BadBucket` if and only if burst or period is 0, or 2^32 or more.
     pub fn bucket(&mut self, alloc: Global, burst: u64, period_ms: u64) -> Result<u64, LimitError>
-        ensures { OrLacksMemory Memory (bucket_answer (limits_of self.old) burst period_ms) (limits_of self.old) (with_bucket (limits_of self.old) burst period_ms) (λ limits. limits_of self.new ≡ limits) result }
+        ensures { OrLacksMemory Memory (bucket_answer (limits_of self.old) burst period_ms) (limits_of self.old)
+            (with_bucket (limits_of self.old) burst period_ms) (λ limits. limits_of self.new ≡ limits) result }
     {
         let number = self.buckets.len() as u64;
         if number >= self.most_buckets {
@@ -117,7 +118,8 @@ impl Limiter {
         cap_ms: u64,
         most: u64,
     ) -> Result<u64, LimitError>
-        ensures { OrLacksMemory Memory (retry_answer (limits_of self.old) base_ms cap_ms most) (limits_of self.old) (with_retry (limits_of self.old) base_ms cap_ms most) (λ limits. limits_of self.new ≡ limits) result }
+        ensures { OrLacksMemory Memory (retry_answer (limits_of self.old) base_ms cap_ms most) (limits_of self.old)
+            (with_retry (limits_of self.old) base_ms cap_ms most) (λ limits. limits_of self.new ≡ limits) result }
     {
         if self.retries.is_full() {
             return Err(LimitError::AtCapacity);

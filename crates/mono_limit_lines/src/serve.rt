@@ -157,7 +157,8 @@ pub fn follow_limiter<S: Source, K: Sink>(
     source: &mut S,
     sink: &mut K,
 ) -> Result<Followed, AllocError>
-    ensures followed { IfOk result (λ f. HasFollowed call_text FitsCall StepByLine (no_limits most_buckets most_retries) f.end f.rest.items (S.left source.old) (S.left source.new) (K.written sink.old) (K.written sink.new)) }
+    ensures followed { IfOk result (λ f. HasFollowed call_text FitsCall StepByLine (no_limits most_buckets most_retries) f.end f.rest.items
+        (S.left source.old) (S.left source.new) (K.written sink.old) (K.written sink.new)) }
     ensures none { OnErr result ((S.left source.new ≡ S.left source.old) × (K.written sink.new ≡ K.written sink.old)) }
 {
     let lines = LimiterLines::new(alloc, most_buckets, most_retries)?;

@@ -53,7 +53,8 @@ pub fn none_is_late()
 
 /// Shows that a finished task has no further turn.
 pub fn finished_has_no_turn()
-    ensures { (events : List Event) (answers : List Report) (old new : Machine) (t : ℕ) → IsValid old → t < next_number old.tasks.table → has_finished (value_at old.tasks.table t) ≡ true → Run old events answers new → has_turn_of t answers ≡ false }
+    ensures { (events : List Event) (answers : List Report) (old new : Machine) (t : ℕ) → IsValid old → t < next_number old.tasks.table →
+        has_finished (value_at old.tasks.table t) ≡ true → Run old events answers new → has_turn_of t answers ≡ false }
 {}
 
 /// Shows that a task that is queued or in the inbox stays so along any run in which it had no turn and did not finish.
@@ -66,7 +67,8 @@ pub fn none_is_lost()
 /// finish. The wake may queue or note it, list or drain it, or be that of a sleep that fired or of a task that
 /// finished.
 pub fn wakes_are_kept()
-    ensures { (woken : Event) (told : Report) (events : List Event) (answers : List Report) (old mid new : Machine) (t : ℕ) → IsValid old → Step old woken told mid → tells_wake t old woken told ≡ true →
+    ensures { (woken : Event) (told : Report) (events : List Event) (answers : List Report) (old mid new : Machine) (t : ℕ) → IsValid old →
+        Step old woken told mid → tells_wake t old woken told ≡ true →
         Run mid events answers new → has_turn_of t answers ≡ false → has_finished (value_at new.tasks.table t) ≡ false → is_awaiting t new ≡ true }
 {}
 
@@ -135,21 +137,24 @@ pub fn watches_are_kept()
 /// Shows that a task that waits for a source is queued or in the inbox once the source has fired, along any run in
 /// which it had no turn since and did not finish.
 pub fn what_fires_wakes()
-    ensures { (fired : Event) (told : Report) (events : List Event) (answers : List Report) (old mid new : Machine) (t : ℕ) (x : Source) → IsValid old → IsWatched old t x → Step old fired told mid → fires t x fired told ≡ true →
+    ensures { (fired : Event) (told : Report) (events : List Event) (answers : List Report) (old mid new : Machine) (t : ℕ) (x : Source) →
+        IsValid old → IsWatched old t x → Step old fired told mid → fires t x fired told ≡ true →
         Run mid events answers new → has_turn_of t answers ≡ false → has_finished (value_at new.tasks.table t) ≡ false → is_awaiting t new ≡ true }
 {}
 
 /// Shows that a task that waits for a source still waits for it or is awaiting, along any run in which it had no turn,
 /// did not finish, and kept its wait.
 pub fn watched_or_awaiting()
-    ensures { (events : List Event) (answers : List Report) (old new : Machine) (t : ℕ) (x : Source) → IsValid old → Run old events answers new → IsWatched old t x → is_taken_in t x events answers ≡ false →
+    ensures { (events : List Event) (answers : List Report) (old new : Machine) (t : ℕ) (x : Source) → IsValid old →
+        Run old events answers new → IsWatched old t x → is_taken_in t x events answers ≡ false →
         has_turn_of t answers ≡ false → has_finished (value_at new.tasks.table t) ≡ false → IsWatched new t x ⊎ (is_awaiting t new ≡ true) }
 {}
 
 /// Shows what a pending turn leaves. If its task waited for a source at some step of the turn, or was woken in it, it
 /// still waits for that source or is awaiting, unless a later step drops the source.
 pub fn what_a_turn_registers_stands()
-    ensures { (before after : List TurnStep) (replies : List Reply) (told : Ended) (old new : Machine) (t : ℕ) (x : Source) → IsValid old → Step old (event.Turn (before ++ after) end.Pending) (report.Turn t replies told) new →
+    ensures { (before after : List TurnStep) (replies : List Reply) (told : Ended) (old new : Machine) (t : ℕ) (x : Source) → IsValid old →
+        Step old (event.Turn (before ++ after) end.Pending) (report.Turn t replies told) new →
         Hears (after_steps t before (begun_machine old.tasks.queue old)) t x → drops_in x after ≡ false → IsWatched new t x ⊎ (is_awaiting t new ≡ true) }
 {}
 
@@ -166,7 +171,8 @@ pub fn what_a_turn_registers_lasts()
 /// finished. The exceptions are a turn of the task itself, and a step that takes its wait (`stays`). Between two events
 /// an unfinished held task waits for the source or is awaiting (`waits`).
 pub fn what_is_held_stays()
-    ensures stays { (old : Machine) (e : Event) (answer : Report) (new : Machine) (t : ℕ) (x : Source) → IsValid old → Step old e answer new → IsHeld old t x → is_turn_of t answer ≡ false → is_taken t x e answer ≡ false → IsHeld new t x }
+    ensures stays { (old : Machine) (e : Event) (answer : Report) (new : Machine) (t : ℕ) (x : Source) → IsValid old →
+        Step old e answer new → IsHeld old t x → is_turn_of t answer ≡ false → is_taken t x e answer ≡ false → IsHeld new t x }
     ensures waits { (m : Machine) (t : ℕ) (x : Source) → IsValid m → IsHeld m t x → has_finished (value_at m.tasks.table t) ≡ false → IsWatched m t x ⊎ (is_awaiting t m ≡ true) }
 {}
 

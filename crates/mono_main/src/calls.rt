@@ -243,7 +243,9 @@ where
     C: Clock + Drop,
     P: Joins,
     R: Host + Send + 'static,
-    ensures exits { IfOk called (λ all. Exits (map string_bytes (drop 1 all.items)) (map string_bytes (remove (drop 1 all.items) 1)) (C.readings clock) (view_of (S.left source.old) (S.faults source.old) (K.written sink.old) (K.faults sink.old) (P.starts spawner.old)) (view_of (S.left source.new) (S.faults source.new) (K.written sink.new) (K.faults sink.new) (P.starts spawner.new)) result) }
+    ensures exits { IfOk called (λ all. Exits (map string_bytes (drop 1 all.items)) (map string_bytes (remove (drop 1 all.items) 1))
+        (C.readings clock) (view_of (S.left source.old) (S.faults source.old) (K.written sink.old) (K.faults sink.old) (P.starts spawner.old))
+        (view_of (S.left source.new) (S.faults source.new) (K.written sink.new) (K.faults sink.new) (P.starts spawner.new)) result) }
     ensures says { IfOk called (λ _. Says waits result (K.closed sink.new) (E.written causes.old) (E.written causes.new) (E.faults causes.old) (E.faults causes.new)) }
     ensures joined { P.running spawner.old ≡ 0 → result ≢ 6 → P.running spawner.new ≡ 0 }
     ensures memory { IfErr called (λ error. error_kind error ≡ OutOfMemory → result ≡ 6) }

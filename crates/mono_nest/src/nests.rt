@@ -65,7 +65,8 @@ where
     requires first_tests { G.IsAlwaysCallable first_tests.0 × H.IsAlwaysCallable first_tests.1 }
     requires second_tests { I.IsAlwaysCallable second_tests.0 × J.IsAlwaysCallable second_tests.1 }
     ensures waits { result ≡ true }
-    ensures sleeps { let delays = first.0.delay.number ∷ first.1.delay.number ∷ second.0.delay.number ∷ second.1.delay.number ∷ [] in C.sleeps cx.new ≡ all_removed (all_polled (C.sleeps cx.old) delays (C.number cx.old)) delays }
+    ensures sleeps { let delays = first.0.delay.number ∷ first.1.delay.number ∷ second.0.delay.number ∷ second.1.delay.number ∷ [] in
+        C.sleeps cx.new ≡ all_removed (all_polled (C.sleeps cx.old) delays (C.number cx.old)) delays }
     ensures work { C.work cx.new ≡ all_woken (C.work cx.old) (C.number cx.old ∷ C.number cx.old ∷ C.number cx.old ∷ C.number cx.old ∷ []) }
     ensures reached { C.reaches cx.old cx.new }
 {

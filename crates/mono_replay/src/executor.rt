@@ -105,7 +105,9 @@ impl Exec {
         ensures greatest { (m : Machine) → Stands self.now m → (sleeps_of result.now).greatest ≡ m.sleeps.greatest }
         ensures rests { (m : Machine) → Stands self.now m → IsNoneArmedUpTo (sleeps_of result.now) × (elapsed_tick result.now ≡ (sleeps_of result.now).greatest) }
         ensures registered { (s : ℕ) → registered_of result.now s ≡ registered_in self.now s }
-        ensures next { (m : Machine) → Stands self.now m → (answer : Option ℕ) → NextExpiration (elapsed_tick result.now) (registered_of result.now) (sleeps_of result.now) answer → IsNext m.sleeps.greatest (registered_in self.now) answer }
+        ensures next { (m : Machine) → Stands self.now m → (answer : Option ℕ) →
+            NextExpiration (elapsed_tick result.now) (registered_of result.now) (sleeps_of result.now) answer →
+            IsNext m.sleeps.greatest (registered_in self.now) answer }
     {
         &self.parts.timers
     }

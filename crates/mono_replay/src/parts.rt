@@ -95,7 +95,8 @@ impl Parts {
         ensures reply { IfOk result (λ r. (m : Machine) → Matches self.old m → r ≡ (act_outcome act m).reply) }
         ensures matches { OnOk result ((m : Machine) → Matches self.old m → Matches self.new (act_outcome act m).machine) }
         ensures turn { self.new.tasks.turn ≡ self.old.tasks.turn }
-        ensures registered { OnOk result ((m : Machine) → Matches self.old m → IsNoneArmedUpTo (sleeps_of self.old.timers) → FollowsAct self.old.timers self.new.timers m.sleeps (act_outcome act m).machine.sleeps) }
+        ensures registered { OnOk result ((m : Machine) → Matches self.old m → IsNoneArmedUpTo (sleeps_of self.old.timers) →
+            FollowsAct self.old.timers self.new.timers m.sleeps (act_outcome act m).machine.sleeps) }
     {
         match act {
             Act::Spawn => self.spawn(alloc),
@@ -133,7 +134,8 @@ impl Parts {
         ensures reply { IfOk result (λ r. (m : Machine) → Matches self.old m → r ≡ (step_outcome me step m).reply) }
         ensures matches { OnOk result ((m : Machine) → Matches self.old m → Matches self.new (step_outcome me step m).machine) }
         ensures turn { self.new.tasks.turn ≡ self.old.tasks.turn }
-        ensures registered { OnOk result ((m : Machine) → Matches self.old m → IsNoneArmedUpTo (sleeps_of self.old.timers) → FollowsAct self.old.timers self.new.timers m.sleeps (step_outcome me step m).machine.sleeps) }
+        ensures registered { OnOk result ((m : Machine) → Matches self.old m → IsNoneArmedUpTo (sleeps_of self.old.timers) →
+            FollowsAct self.old.timers self.new.timers m.sleeps (step_outcome me step m).machine.sleeps) }
     {
         match step {
             TurnStep::Act(act) => self.act(alloc, act),

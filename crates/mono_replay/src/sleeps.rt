@@ -43,7 +43,8 @@ impl Parts {
         ensures reply { (m : Machine) → Matches self.old m → result ≡ (act_outcome (Act.Reset s n) m).reply }
         ensures matches { (m : Machine) → Matches self.old m → Matches self.new (act_outcome (Act.Reset s n) m).machine }
         ensures turn { self.new.tasks.turn ≡ self.old.tasks.turn }
-        ensures registered { (m : Machine) → Matches self.old m → IsNoneArmedUpTo (sleeps_of self.old.timers) → FollowsAct self.old.timers self.new.timers m.sleeps (act_outcome (Act.Reset s n) m).machine.sleeps }
+        ensures registered { (m : Machine) → Matches self.old m → IsNoneArmedUpTo (sleeps_of self.old.timers) →
+            FollowsAct self.old.timers self.new.timers m.sleeps (act_outcome (Act.Reset s n) m).machine.sleeps }
     {
         match Instant::from_nanos(n) {
             None => match self.timers.is_elapsed(s) {

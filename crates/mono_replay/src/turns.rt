@@ -86,7 +86,8 @@ impl Parts {
         ensures report { IfOk result (λ r. (m : Machine) → Matches self.old m → IsValid m → r ≡ turn_report steps.now end m) }
         ensures matches { OnOk result ((m : Machine) → Matches self.old m → IsValid m → Matches self.new (after_turn steps.now end m)) }
         ensures rest { self.new.tasks.turn ≡ None }
-        ensures registered { OnOk result ((m : Machine) → Matches self.old m → IsValid m → (s : ℕ) → registered_of self.new.timers s ≡ registered_by_turn m.tasks.queue steps.now m s (registered_of self.old.timers s)) }
+        ensures registered { OnOk result ((m : Machine) → Matches self.old m → IsValid m → (s : ℕ) →
+            registered_of self.new.timers s ≡ registered_by_turn m.tasks.queue steps.now m s (registered_of self.old.timers s)) }
     {
         match self.tasks.begin_turn() {
             Err(_) => Ok(Report::Reply(Reply::Refused(Refusal::Idle))),

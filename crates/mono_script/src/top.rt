@@ -156,7 +156,9 @@ pub fn explained<S: Source, K: Sink, C: Clock + Drop, P: Spawner, R: Host + Send
     clock: C,
     spawner: &mut P,
 ) -> Option<Ended>
-    ensures ends { CarriesOut (map string_bytes words.now.items) (C.readings clock) (view_of (S.left source.old) (S.faults source.old) (K.written sink.old) (K.faults sink.old) (P.starts spawner.old)) (view_of (S.left source.new) (S.faults source.new) (K.written sink.new) (K.faults sink.new) (P.starts spawner.new)) (code_of result) }
+    ensures ends { CarriesOut (map string_bytes words.now.items) (C.readings clock)
+        (view_of (S.left source.old) (S.faults source.old) (K.written sink.old) (K.faults sink.old) (P.starts spawner.old))
+        (view_of (S.left source.new) (S.faults source.new) (K.written sink.new) (K.faults sink.new) (P.starts spawner.new)) (code_of result) }
     ensures none { IfNone result (IsNoCommand (map string_bytes words.now.items)) }
     ensures command { IfSome result (λ e. IsCommand (map string_bytes words.now.items) e.command) }
     ensures line { IfSome result (λ e. e.status ≡ status.BadLine → IsLine (meaning (C.readings clock) e.command) e.input.items status.BadLine e.bad_line) }
@@ -197,7 +199,9 @@ pub fn program<S: Source, K: Sink, C: Clock + Drop, P: Spawner, R: Host + Send +
     clock: C,
     spawner: &mut P,
 ) -> u8
-    ensures { CarriesOut (map string_bytes words.now.items) (C.readings clock) (view_of (S.left source.old) (S.faults source.old) (K.written sink.old) (K.faults sink.old) (P.starts spawner.old)) (view_of (S.left source.new) (S.faults source.new) (K.written sink.new) (K.faults sink.new) (P.starts spawner.new)) result }
+    ensures { CarriesOut (map string_bytes words.now.items) (C.readings clock)
+        (view_of (S.left source.old) (S.faults source.old) (K.written sink.old) (K.faults sink.old) (P.starts spawner.old))
+        (view_of (S.left source.new) (S.faults source.new) (K.written sink.new) (K.faults sink.new) (P.starts spawner.new)) result }
 {
     let ended = explained(rt, alloc, words, source, sink, clock, spawner);
     exit_code(&ended)

@@ -36,7 +36,9 @@ impl Sessions {
         now: Instant,
         closed: &mut Vec<u64>,
     ) -> Result<(), AllocError>
-        ensures step { OnOk result ((k : Keeper) → StandsFor self.old k → (due : List ℕ) × (closed.new.items ≡ closed.old.items ++ due) × ListsDue closing_value k.sessions (greatest_at k (nanos_of now)) due × StandsFor self.new (without_all (with_greatest k (greatest_at k (nanos_of now))) due)) }
+        ensures step { OnOk result ((k : Keeper) → StandsFor self.old k → (due : List ℕ) × (closed.new.items ≡ closed.old.items ++ due)
+            × ListsDue closing_value k.sessions (greatest_at k (nanos_of now)) due
+            × StandsFor self.new (without_all (with_greatest k (greatest_at k (nanos_of now))) due)) }
         ensures refused { OnErr result ((self.new ≡ self.old) × (closed.new.items ≡ closed.old.items)) }
         ensures left { steps_left self.new ≤ steps_left self.old }
     {

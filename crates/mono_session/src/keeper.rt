@@ -262,7 +262,9 @@ impl Sessions {
     /// opening or renewing a session may raise them, by at most a number that its limit determines (`raise`).
     pub fn clock<L: Ledger>(&mut self, now: Instant, closed: &mut Vec<u64>, steps: &mut Steps<L>)
         requires { vec_len closed.old + open_count self.old ≤ vec_capacity closed.old }
-        ensures step { (k : Keeper) → StandsFor self.old k → (due : List ℕ) × (closed.new.items ≡ closed.old.items ++ due) × ListsDue closing_value k.sessions (greatest_at k (nanos_of now)) due × StandsFor self.new (without_all (with_greatest k (greatest_at k (nanos_of now))) due) }
+        ensures step { (k : Keeper) → StandsFor self.old k → (due : List ℕ) × (closed.new.items ≡ closed.old.items ++ due)
+            × ListsDue closing_value k.sessions (greatest_at k (nanos_of now)) due
+            × StandsFor self.new (without_all (with_greatest k (greatest_at k (nanos_of now))) due) }
         ensures steps { steps.new + steps_left self.new ≤ steps.old + steps_left self.old }
     {
         while let Some((session, _)) = self.timers.clock(now, steps) {
@@ -289,7 +291,9 @@ impl Sessions {
     )
         requires closed { vec_len closed.old + open_count self.old ≤ vec_capacity closed.old }
         requires left { vec_len left.old + entries_len self.old ≤ vec_capacity left.old }
-        ensures step { (k : Keeper) → StandsFor self.old k → (due : List ℕ) × (closed.new.items ≡ closed.old.items ++ due) × (left.new.items ≡ left.old.items ++ leaves k due) × ListsDue closing_value k.sessions (greatest_at k (nanos_of now)) due × StandsFor self.new (without_all (with_greatest k (greatest_at k (nanos_of now))) due) }
+        ensures step { (k : Keeper) → StandsFor self.old k → (due : List ℕ) × (closed.new.items ≡ closed.old.items ++ due)
+            × (left.new.items ≡ left.old.items ++ leaves k due) × ListsDue closing_value k.sessions (greatest_at k (nanos_of now)) due
+            × StandsFor self.new (without_all (with_greatest k (greatest_at k (nanos_of now))) due) }
         ensures steps { steps.new + steps_left self.new ≤ steps.old + steps_left self.old }
         ensures capacity { vec_capacity left.new ≡ vec_capacity left.old }
     {

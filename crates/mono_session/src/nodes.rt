@@ -120,7 +120,9 @@ fn set_before_key(nodes: &mut Nodes, key: u64, session: u64, number: Option<u64>
 
 /// Sets the session that follows this one in the queue, if there is one and it is there.
 pub fn link_after(nodes: &mut Nodes, key: u64, session: Option<u64>, number: Option<u64>)
-    ensures changed { (q m : ℕ) → place_by queue_place (get pair_eq nodes.new (q, m)) ≡ cond (nat_eq key q) (linked_after session m number (place_by queue_place (get pair_eq nodes.old (q, m)))) (place_by queue_place (get pair_eq nodes.old (q, m))) }
+    ensures changed { (q m : ℕ) → place_by queue_place (get pair_eq nodes.new (q, m))
+        ≡ cond (nat_eq key q) (linked_after session m number (place_by queue_place (get pair_eq nodes.old (q, m))))
+        (place_by queue_place (get pair_eq nodes.old (q, m))) }
     ensures others { (q m : ℕ) → place_by key_place (get pair_eq nodes.new (q, m)) ≡ place_by key_place (get pair_eq nodes.old (q, m)) }
     ensures len { hash_map_len nodes.new ≡ hash_map_len nodes.old }
 {
@@ -131,7 +133,9 @@ pub fn link_after(nodes: &mut Nodes, key: u64, session: Option<u64>, number: Opt
 
 /// Sets the session that precedes this one in the queue, if there is one and it is there.
 pub fn link_before(nodes: &mut Nodes, key: u64, session: Option<u64>, number: Option<u64>)
-    ensures changed { (q m : ℕ) → place_by queue_place (get pair_eq nodes.new (q, m)) ≡ cond (nat_eq key q) (linked_before session m number (place_by queue_place (get pair_eq nodes.old (q, m)))) (place_by queue_place (get pair_eq nodes.old (q, m))) }
+    ensures changed { (q m : ℕ) → place_by queue_place (get pair_eq nodes.new (q, m))
+        ≡ cond (nat_eq key q) (linked_before session m number (place_by queue_place (get pair_eq nodes.old (q, m))))
+        (place_by queue_place (get pair_eq nodes.old (q, m))) }
     ensures others { (q m : ℕ) → place_by key_place (get pair_eq nodes.new (q, m)) ≡ place_by key_place (get pair_eq nodes.old (q, m)) }
     ensures len { hash_map_len nodes.new ≡ hash_map_len nodes.old }
 {
@@ -142,7 +146,9 @@ pub fn link_before(nodes: &mut Nodes, key: u64, session: Option<u64>, number: Op
 
 /// Sets the key that follows this one among those of the session, if there is one and it is there.
 pub fn link_after_key(nodes: &mut Nodes, session: u64, key: Option<u64>, number: Option<u64>)
-    ensures changed { (q m : ℕ) → place_by key_place (get pair_eq nodes.new (m, q)) ≡ cond (nat_eq session q) (linked_after key m number (place_by key_place (get pair_eq nodes.old (m, q)))) (place_by key_place (get pair_eq nodes.old (m, q))) }
+    ensures changed { (q m : ℕ) → place_by key_place (get pair_eq nodes.new (m, q))
+        ≡ cond (nat_eq session q) (linked_after key m number (place_by key_place (get pair_eq nodes.old (m, q))))
+        (place_by key_place (get pair_eq nodes.old (m, q))) }
     ensures others { (q m : ℕ) → place_by queue_place (get pair_eq nodes.new (q, m)) ≡ place_by queue_place (get pair_eq nodes.old (q, m)) }
     ensures len { hash_map_len nodes.new ≡ hash_map_len nodes.old }
 {
@@ -153,7 +159,9 @@ pub fn link_after_key(nodes: &mut Nodes, session: u64, key: Option<u64>, number:
 
 /// Sets the key that precedes this one among those of the session, if there is one and it is there.
 pub fn link_before_key(nodes: &mut Nodes, session: u64, key: Option<u64>, number: Option<u64>)
-    ensures changed { (q m : ℕ) → place_by key_place (get pair_eq nodes.new (m, q)) ≡ cond (nat_eq session q) (linked_before key m number (place_by key_place (get pair_eq nodes.old (m, q)))) (place_by key_place (get pair_eq nodes.old (m, q))) }
+    ensures changed { (q m : ℕ) → place_by key_place (get pair_eq nodes.new (m, q))
+        ≡ cond (nat_eq session q) (linked_before key m number (place_by key_place (get pair_eq nodes.old (m, q))))
+        (place_by key_place (get pair_eq nodes.old (m, q))) }
     ensures others { (q m : ℕ) → place_by queue_place (get pair_eq nodes.new (q, m)) ≡ place_by queue_place (get pair_eq nodes.old (q, m)) }
     ensures len { hash_map_len nodes.new ≡ hash_map_len nodes.old }
 {

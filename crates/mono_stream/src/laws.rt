@@ -32,7 +32,8 @@ where
     S: Stream<C>,
     Fut: TaskFuture<C>,
     F: FnMut(S::Item) -> Fut + Drop,
-    ensures { (n : ℕ) (old : Then S F Fut) (outputs : List Fut.Output) (has_ended : Bool) (new : Then S F Fut) → old.made ≡ None → Gives (ThenPolls S.Stream Fut.TaskFuture F.FnMut) n old outputs has_ended new →
+    ensures { (n : ℕ) (old : Then S F Fut) (outputs : List Fut.Output) (has_ended : Bool) (new : Then S F Fut) → old.made ≡ None →
+        Gives (ThenPolls S.Stream Fut.TaskFuture F.FnMut) n old outputs has_ended new →
         (count : ℕ) × (items : List S.Item) × Gives S.polls count old.stream items has_ended new.stream × AreOutputs Fut.TaskFuture F.FnMut old.f items outputs new.made new.f }
 {}
 
@@ -51,5 +52,6 @@ pub fn gives_each_next<C, I>()
 where
     C: Context,
     I: Iterator,
-    ensures { (n : ℕ) (old : Iter I) (items : List I.Item) (has_ended : Bool) (new : Iter I) → Gives ⟦<Iter<I> as Stream<C>>⟧.polls n old items has_ended new → AreNext I.next_gives old.iterator items has_ended new.iterator }
+    ensures { (n : ℕ) (old : Iter I) (items : List I.Item) (has_ended : Bool) (new : Iter I) →
+        Gives ⟦<Iter<I> as Stream<C>>⟧.polls n old items has_ended new → AreNext I.next_gives old.iterator items has_ended new.iterator }
 {}

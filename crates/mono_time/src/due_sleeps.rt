@@ -103,11 +103,14 @@ pub fn take_due<L: Ledger>(timers: &mut Timers, now: Instant, blank: Blank, room
     requires ledger { (blank.name ≡ L.name) × (blank.parts ≡ L.parts) × (0 < L.parts) }
     requires fired { (room.fired.items ≡ []) × (armed_count (sleeps_of timers.old) + vec_len room.fired ≤ vec_capacity room.fired) }
     requires wakers { (room.wakers.items ≡ []) × (armed_count (sleeps_of timers.old) + vec_len room.wakers ≤ vec_capacity room.wakers) }
-    ensures fires { (sleeps : Sleeps) → Keeps timers.old sleeps → Keeps timers.new (all_fired (sleep.at_clock sleeps (nanos_of now)) result.fired.items) × FireInTurn (sleep.at_clock sleeps (nanos_of now)).table (sleep.at_clock sleeps (nanos_of now)).greatest result.fired.items }
+    ensures fires { (sleeps : Sleeps) → Keeps timers.old sleeps →
+        Keeps timers.new (all_fired (sleep.at_clock sleeps (nanos_of now)) result.fired.items)
+        × FireInTurn (sleep.at_clock sleeps (nanos_of now)).table (sleep.at_clock sleeps (nanos_of now)).greatest result.fired.items }
     ensures wakers { (sleeps : Sleeps) → Keeps timers.old sleeps → result.wakers.items ≡ wakers_of (sleep.at_clock sleeps (nanos_of now)) result.fired.items }
     ensures has_gone { elapsed_tick timers.new ≡ (sleeps_of timers.new).greatest }
     ensures rests { IsNoneArmedUpTo (sleeps_of timers.new) }
-    ensures registered { (s : ℕ) → registered_of timers.new s ≡ stepped_registered (elapsed_tick timers.old) (elapsed_tick timers.new) (value_at (sleeps_of timers.old).table s) (registered_of timers.old s) }
+    ensures registered { (s : ℕ) → registered_of timers.new s ≡ stepped_registered (elapsed_tick timers.old) (elapsed_tick timers.new)
+        (value_at (sleeps_of timers.old).table s) (registered_of timers.old s) }
 {
     let mut steps: Steps<L> = Steps::new(blank);
     let mut due = room;

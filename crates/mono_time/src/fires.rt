@@ -48,7 +48,9 @@ impl Timers {
         ensures refused { OnErr result ((self.new ≡ self.old) × (fired.new.items ≡ fired.old.items)) }
         // These clauses show the wheel under the table.
         ensures elapsed { OnOk result (elapsed_tick self.new ≡ (sleeps_of self.new).greatest) }
-        ensures registered { OnOk result ((s : ℕ) → registered_of self.new s ≡ stepped_registered (elapsed_tick self.old) (elapsed_tick self.new) (value_at (sleeps_of self.old).table s) (registered_of self.old s)) }
+        ensures registered { OnOk result ((s : ℕ) → registered_of self.new s
+            ≡ stepped_registered (elapsed_tick self.old) (elapsed_tick self.new) (value_at (sleeps_of self.old).table s)
+            (registered_of self.old s)) }
     {
         fired.reserve(self.live() as usize)?;
         fire_each::<Brand>(self, now, fired, Blank::new(1));

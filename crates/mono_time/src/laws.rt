@@ -21,7 +21,8 @@ pub fn instants_are_numbers()
 /// Shows that a sleep that is armed for a deadline fires only once the clock's greatest reading so far has reached the
 /// deadline.
 pub fn none_fires_early()
-    ensures { (sleeps : SleepTable) (clock deadline s : ℕ) (waker task : Option ℕ) → sleeps.greatest ≡ down clock → value_at sleeps.table s ≡ Some (armed (up deadline) task) → IsFiredFirst sleeps s waker → deadline ≤ clock }
+    ensures { (sleeps : SleepTable) (clock deadline s : ℕ) (waker task : Option ℕ) → sleeps.greatest ≡ down clock →
+        value_at sleeps.table s ≡ Some (armed (up deadline) task) → IsFiredFirst sleeps s waker → deadline ≤ clock }
 {}
 
 /// Shows that additions, polls, resets and removals keep every armed sleep's tick above the greatest, as a clock step

@@ -156,7 +156,8 @@ impl Timers {
         ensures stands { (m : Sleeps) → StandsForSleeps self.old m → (result ≡ machine.poll_answer m sleep) × StandsForSleeps self.new (machine.polled m sleep by) }
         // These clauses show the wheel under the table.
         ensures elapsed { elapsed_tick self.new ≡ elapsed_tick self.old }
-        ensures registered { RegistersOnly (registered_of self.old) (registered_of self.new) sleep (polled_registered (sleeps_of self.old).greatest (value_at (sleeps_of self.old).table sleep) (registered_of self.old sleep)) }
+        ensures registered { RegistersOnly (registered_of self.old) (registered_of self.new) sleep
+            (polled_registered (sleeps_of self.old).greatest (value_at (sleeps_of self.old).table sleep) (registered_of self.old sleep)) }
         ensures raise { credit_left self.new ≤ credit_left self.old + poll_raise (elapsed_tick self.old) (value_at (sleeps_of self.old).table sleep) }
     {
         match key_at(&self.keys, sleep) {
@@ -174,10 +175,14 @@ impl Timers {
     pub fn reset(&mut self, sleep: u64, deadline: Instant) -> Result<Option<u64>, Error>
         ensures answer { result ≡ sleep_reset_answer (sleeps_of self.old) sleep (nanos_of deadline) }
         ensures sleeps { sleeps_of self.new ≡ with_reset_sleep (sleeps_of self.old) sleep (nanos_of deadline) }
-        ensures stands { (m : Sleeps) → StandsForSleeps self.old m → (result ≡ machine.reset_answer m sleep (nanos_of deadline)) × StandsForSleeps self.new (machine.reset m sleep (nanos_of deadline)) }
+        ensures stands { (m : Sleeps) → StandsForSleeps self.old m → (result ≡ machine.reset_answer m sleep (nanos_of deadline))
+            × StandsForSleeps self.new (machine.reset m sleep (nanos_of deadline)) }
         // These clauses show the wheel under the table.
         ensures elapsed { elapsed_tick self.new ≡ elapsed_tick self.old }
-        ensures registered { IsNoneArmedUpTo (sleeps_of self.old) → RegistersOnly (registered_of self.old) (registered_of self.new) sleep (reset_registered (sleeps_of self.old).greatest (up (nanos_of deadline)) (value_at (sleeps_of self.old).table sleep) (registered_of self.old sleep)) }
+        ensures registered { IsNoneArmedUpTo (sleeps_of self.old) →
+            RegistersOnly (registered_of self.old) (registered_of self.new) sleep
+            (reset_registered (sleeps_of self.old).greatest (up (nanos_of deadline)) (value_at (sleeps_of self.old).table sleep)
+            (registered_of self.old sleep)) }
         ensures raise { credit_left self.new ≤ credit_left self.old + most_takes (up (nanos_of deadline) - elapsed_tick self.old) }
     {
         match key_at(&self.keys, sleep) {
@@ -265,14 +270,17 @@ impl Timers {
         steps: &mut Steps<L>,
     ) -> Option<(u64, Option<u64>)>
         ensures none { IfNone result (IsNoneArmedUpTo (at_clock_tick (sleeps_of self.old) (nanos_of now)) × (sleeps_of self.new ≡ at_clock_tick (sleeps_of self.old) (nanos_of now))) }
-        ensures some { IfSome result (λ x. IsFiredFirst (at_clock_tick (sleeps_of self.old) (nanos_of now)) x.0 x.1 × (sleeps_of self.new ≡ with_fired_sleep (at_clock_tick (sleeps_of self.old) (nanos_of now)) x.0)) }
+        ensures some { IfSome result (λ x. IsFiredFirst (at_clock_tick (sleeps_of self.old) (nanos_of now)) x.0 x.1
+            × (sleeps_of self.new ≡ with_fired_sleep (at_clock_tick (sleeps_of self.old) (nanos_of now)) x.0)) }
         ensures fewer { OnSome result (armed_count (sleeps_of self.new) < armed_count (sleeps_of self.old)) }
         ensures stands { (m : Sleeps) → StandsForSleeps self.old m → machine.Fires (machine.at_clock m (nanos_of now)) result (StandsForSleeps self.new) }
         // These clauses show the wheel under the table.
         ensures elapsed { IfNone result (elapsed_tick self.new ≡ (sleeps_of self.new).greatest) }
         ensures later { elapsed_tick self.old ≤ elapsed_tick self.new }
         ensures reached { IfSome result (λ x. value_at (sleeps_of self.old).table x.0 ≡ Some (armed (elapsed_tick self.new) x.1)) }
-        ensures registered { (s : ℕ) → value_at (sleeps_of self.new).table s ≡ value_at (sleeps_of self.old).table s → registered_of self.new s ≡ moved_registered (elapsed_tick self.old) (elapsed_tick self.new) (value_at (sleeps_of self.old).table s) (registered_of self.old s) }
+        ensures registered { (s : ℕ) → value_at (sleeps_of self.new).table s ≡ value_at (sleeps_of self.old).table s →
+            registered_of self.new s ≡ moved_registered (elapsed_tick self.old) (elapsed_tick self.new) (value_at (sleeps_of self.old).table s)
+            (registered_of self.old s) }
         ensures steps { steps.new + credit_left self.new ≡ steps.old + credit_left self.old }
         ensures gone { IfSome result (λ x. registered_of self.new x.0 ≡ None) }
     {
@@ -302,7 +310,9 @@ impl Timers {
         ensures armed { IfSome result (λ next. IsOneArmed (sleeps_of self.now)) }
         ensures registered { (s : ℕ) → IsRegistered (elapsed_tick self.now) (value_at (sleeps_of self.now).table s) (registered_of self.now s) }
         ensures behind { elapsed_tick self.now ≤ (sleeps_of self.now).greatest }
-        ensures ahead { IsNoneArmedUpTo (sleeps_of self.now) → elapsed_tick self.now ≡ (sleeps_of self.now).greatest → IfSome result (λ next. ((sleeps_of self.now).greatest < next) × ((s tick : ℕ) (waker : Option ℕ) → value_at (sleeps_of self.now).table s ≡ Some (armed tick waker) → next ≤ tick)) }
+        ensures ahead { IsNoneArmedUpTo (sleeps_of self.now) → elapsed_tick self.now ≡ (sleeps_of self.now).greatest →
+            IfSome result (λ next. ((sleeps_of self.now).greatest < next)
+            × ((s tick : ℕ) (waker : Option ℕ) → value_at (sleeps_of self.now).table s ≡ Some (armed tick waker) → next ≤ tick)) }
     {
         slots_start_ahead();
         self.wheel.next_expiration_time()

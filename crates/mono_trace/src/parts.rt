@@ -166,7 +166,8 @@ impl Parts {
 
     /// Begins a turn: the front of the queue runs.
     pub fn begin(&mut self) -> Result<Option<u64>, AllocError>
-        ensures { IfOk result (λ r. MatchOption r ((self.old.now.tasks.queue ≡ []) × (self.new ≡ self.old)) (λ t. (rest : List ℕ) × (self.old.now.tasks.queue ≡ t ∷ rest) × (self.new ≡ changed self.old (after_begin t rest self.old.now)))) }
+        ensures { IfOk result (λ r. MatchOption r ((self.old.now.tasks.queue ≡ []) × (self.new ≡ self.old))
+            (λ t. (rest : List ℕ) × (self.old.now.tasks.queue ≡ t ∷ rest) × (self.new ≡ changed self.old (after_begin t rest self.old.now)))) }
     {
         self.tasks.begin()
     }

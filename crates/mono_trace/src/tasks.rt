@@ -232,7 +232,8 @@ impl Tasks {
 
     /// Begins a turn: the front of the queue runs.
     pub fn begin(&mut self) -> Result<Option<u64>, AllocError>
-        ensures { IfOk result (λ r. MatchOption r ((self.old.now.queue ≡ []) × (self.new ≡ self.old)) (λ t. (rest : List ℕ) × (self.old.now.queue ≡ t ∷ rest) × (self.new ≡ changed self.old (model.begun self.old.now t rest)))) }
+        ensures { IfOk result (λ r. MatchOption r ((self.old.now.queue ≡ []) × (self.new ≡ self.old))
+            (λ t. (rest : List ℕ) × (self.old.now.queue ≡ t ∷ rest) × (self.new ≡ changed self.old (model.begun self.old.now t rest)))) }
     {
         match self.take()? {
             None => Ok(None),

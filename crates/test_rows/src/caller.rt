@@ -27,7 +27,9 @@ pub fn status_of<C: Clock + Drop, P: Spawner, R: Host + Send + 'static>(
     ensures usage { result ≡ 2 ↔ IsNoCommand (map string_bytes words.now.items) }
     ensures no_read_fault { result ≢ 4 }
     ensures no_write_fault { result ≢ 5 }
-    ensures complete { (limits : Limits) (strategy : Blocking) (events : List Event) → IsCommand (map string_bytes words.now.items) (command.Replay limits strategy) → length input.items ≤ max_input → AreEventLines events (lines input.items) → (result ≡ 0) ⊎ (result ≡ 6) }
+    ensures complete { (limits : Limits) (strategy : Blocking) (events : List Event) →
+        IsCommand (map string_bytes words.now.items) (command.Replay limits strategy) → length input.items ≤ max_input →
+        AreEventLines events (lines input.items) → (result ≡ 0) ⊎ (result ≡ 6) }
 {
     let mut source = PlainSource::new(input);
     let mut sink = PlainSink::new();

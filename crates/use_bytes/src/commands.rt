@@ -87,7 +87,9 @@ pub fn finished_run<K: Sink, R: Host + Send + 'static>(
     alloc: Global,
     sink: &mut K,
 ) -> Result<u8, AllocError>
-    ensures { K.faults sink.old < 2 ^ 64 - 1 → IfOk result (Gives 0 (line (codes "spawn -> task 0") ++ line (codes "now 0") ++ line (codes "turn; ready 5 -> turn 0; done") ++ line (codes "drop-join 0 -> dropped 5") ++ line (codes "main 5")) (K.written sink.old) (K.written sink.new)) }
+    ensures { K.faults sink.old < 2 ^ 64 - 1 → IfOk result
+        (Gives 0 (line (codes "spawn -> task 0") ++ line (codes "now 0") ++ line (codes "turn; ready 5 -> turn 0; done")
+        ++ line (codes "drop-join 0 -> dropped 5") ++ line (codes "main 5")) (K.written sink.old) (K.written sink.new)) }
 {
     let words = three_words(alloc, "run", "0", "1")?;
     status_of(rt, alloc, &words, b"limits 1 1 1\ntask\ndone 5\n", sink)

@@ -110,7 +110,8 @@ impl<P: ThreadPool + Drop> Blockings<P> {
         alloc: Global,
         job: P::Job,
     ) -> Result<JobHandle, SpawnError<P::Job>>
-        ensures spawned { Spawned P.Job.output_number job result (strategy_of self.old.pool) (refusals_of P.refusals self.old.pool) (refusals_of P.refusals self.new.pool) self.old.table.jobs self.new.table.jobs }
+        ensures spawned { Spawned P.Job.output_number job result (strategy_of self.old.pool) (refusals_of P.refusals self.old.pool)
+            (refusals_of P.refusals self.new.pool) self.old.table.jobs self.new.table.jobs }
         ensures strategy { strategy_of self.new.pool ≡ strategy_of self.old.pool }
         ensures later { refusals_of P.refusals self.old.pool ≤ refusals_of P.refusals self.new.pool }
     {

@@ -17,7 +17,8 @@ impl<O: Outcome + Drop, W: Wakes + Drop> Runner<O, W> {
         ensures seat { ((seat_view result.seat).number ≡ (runner_view self).number) × IsCompleted (is_canceled outcome) (seat_view result.seat).stage }
         ensures left { RunnerLeft self result.seat }
         ensures dropped { IsTrue result.dropped ↔ (found_at (seat_view result.seat).stage ≡ 0) }
-        ensures woke { MatchOption result.woke (found_at (seat_view result.seat).stage ≢ 24) (λ w. (found_at (seat_view result.seat).stage ≡ 24) × (W.waker_number w ≡ woke_at (seat_view result.seat).stage)) }
+        ensures woke { MatchOption result.woke (found_at (seat_view result.seat).stage ≢ 24)
+            (λ w. (found_at (seat_view result.seat).stage ≡ 24) × (W.waker_number w ≡ woke_at (seat_view result.seat).stage)) }
     {
         let Self { word, mut seat } = self;
         let shared = &word.shared;

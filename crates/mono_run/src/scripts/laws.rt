@@ -21,5 +21,8 @@ pub fn one_line_is_the_first()
 /// Shows that, after the limits, whole kinds and the front of one more, all of them sound, a line that may not follow
 /// is the first bad one, for each rest of the input.
 pub fn what_may_not_follow_is_bad()
-    ensures { (input : List ℕ) (x : Limits) (ks : List Kind) (bs : List BodyLine) (l : Line) (rest : List Line) → FitLimits x → AreSoundKinds (task_lines (lines input)) ks → AllMayStand (task_lines (lines input)) [] bs → length ks < 64 → length bs ≤ 127 → lines input ≡ map ended (front_texts x ks bs) ++ l ∷ rest → (MayFollow (task_lines (lines input)) bs l → ⊥) → IsFirstBad input (length (map ended (front_texts x ks bs)) + 1) }
+    ensures { (input : List ℕ) (x : Limits) (ks : List Kind) (bs : List BodyLine) (l : Line) (rest : List Line) → FitLimits x →
+        AreSoundKinds (task_lines (lines input)) ks → AllMayStand (task_lines (lines input)) [] bs → length ks < 64 → length bs ≤ 127 →
+        lines input ≡ map ended (front_texts x ks bs) ++ l ∷ rest → (MayFollow (task_lines (lines input)) bs l → ⊥) →
+        IsFirstBad input (length (map ended (front_texts x ks bs)) + 1) }
 {}
