@@ -113,7 +113,7 @@ module _ {F O P U W J A V : Type 0} (number : O → ℕ) (sharing : SharedOf W) 
         remotes_polled d.taken old d.mid part d.left d.remotes (λ n. subst (λ xs. PolledBy number sharing future h lasts d.mid fs n xs) (sym d.entry) (new, (d.step, polled n))) reading
 
     park_polled : (g : Bool) (old new : Machine) (part rest : List Entry) → IsAtRest old → IsPark g old part new rest → Is new rest → Is old part
-    park_polled g old new part rest idle (now, (wait, (waits, (is, same)))) polled reading =
+    park_polled g old new part rest idle (now, (wait, (waits, (is, (same, below))))) polled reading =
         subst (λ xs. PolledBy number sharing future h lasts old fs reading xs) (sym is) (idle, subst (λ m. PolledBy number sharing future h lasts m fs now rest) same (polled now))
 
     clock_polled : (g : Bool) (old new : Machine) (part rest : List Entry) → ClockIf g old part new rest → Is new rest → Is old part

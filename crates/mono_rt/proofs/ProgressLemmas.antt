@@ -9,7 +9,7 @@ use Rattle.mono_rt.specs.Stores.{store_of}
 use Rattle.mono_rt.specs.FuturePolls.{HasLasted, PollingBy, Lasts}
 use Rattle.mono_rt.specs.SpawnErrors.{HasPlace}
 use Rattle.mono_rt.specs.DriverReadings.{going, Telling, Still}
-use Rattle.mono_rt.specs.Views.{exposed, is_timed, Rests, Grows, RaisesTurns, GivesNoMore, CanRun, LeadsShared, PollsItsFuturesBy, FillsJournal, HoldsSamePlaces, TellsDriver}
+use Rattle.mono_rt.specs.Views.{exposed, is_timed, Rests, Grows, RaisesTurns, GivesNoMore, CanRun, LeadsShared, PollsItsFuturesBy, FillsJournal, HoldsSamePlaces, TellsDriver, ended_tasks, ClosesEnded}
 use Rattle.mono_rt.specs.Progress.{ending, lasting, turn_answer, Idles, Proceeds}
 use Rattle.mono_rt.specs.declared.contexts.Cx.{Cx}
 use Rattle.mono_rt.specs.declared.runtimes.Runtime.{Runtime}
@@ -17,6 +17,7 @@ use Rattle.mono_rt.specs.declared.parts.errors.RunError.{RunError}
 use Rattle.mono_rt.specs.declared.parts.errors.RunError.TheVariants as error
 use Rattle.mono_rt.proofs.JournalLemmas.{goes_of, does_stay}
 use Rattle.mono_rt.proofs.TurnCountLemmas.{counts_stays, counts_on, counts_pause}
+use Rattle.mono_rt.proofs.ClosedTaskLemmas.{closes_stays, closes_on, closes_pause}
 use Rattle.mono_rt.proofs.DriverLemmas.{telling_more, unfailed, so_after, so_done, so_spent, so_broken, still_of}
 use Rattle.mono_rt.proofs.FaultLemmas.{faults_after}
 use Rattle.mono_rt.proofs.FuturePollLemmas.{same_store, polls_on, polls_nothing, polls_pause}
@@ -57,6 +58,7 @@ module _ {F O D P W U J A V : Type 0} where
     shared = q.shared ∙ p.shared;
     full = q.full ∙ p.full;
     held = q.held ∙ p.held;
+    closes = q.closes ∙ p.closes;
   }
 
   module _ (number : O → ℕ) (sharing : SharedOf W) (clock : Clock.Ghosts D) (future : FutureOf F (Cx F O P U W J A V) O) where
@@ -75,6 +77,7 @@ module _ {F O D P W U J A V : Type 0} where
       full = fills_not number sharing future a.cx a.journal a.journal refl;
       held = refl;
       placed = refl;
+      closes = closes_stays number _ _ refl a.cx.parts a.cx.parts a.journal a.journal (does_stay number a.cx.parts a.cx.parts a.journal a.journal refl refl refl refl refl);
     }
 
     -- one after the other
@@ -95,6 +98,7 @@ module _ {F O D P W U J A V : Type 0} where
           (goes_of number (PollingBy number sharing future a.cx.parts.has_timers false (store_of a.cx) (store_of b.cx)) a.cx.parts b.cx.parts a.journal b.journal (p.polled false (λ is. tt))) p.full q.full;
       held = q.held ∙ p.held;
       placed = q.placed;
+      closes = closes_on number (ended_tasks a) (ended_tasks b) (ended_tasks c) a.cx.parts b.cx.parts c.cx.parts a.journal b.journal c.journal p.closes q.closes;
     }
 
     -- the budget is spent
@@ -112,14 +116,15 @@ module _ {F O D P W U J A V : Type 0} where
       full = p.full;
       held = p.held;
       placed = refl;
+      closes = p.closes;
     }
 
     -- a turn, by whether memory ran out in it
     pub went_turn : (lacks : Bool) (a b : Runtime F O D P W U J A V) → is_timed b ≡ is_timed a → (Rests a → Rests b) → RaisesTurns number a b → GivesNoMore future.gives a b → (CanRun future a → CanRun future b) → LeadsShared sharing.leads a b
         → ((lasts : Bool) → HasLasted lasts lacks → PollsItsFuturesBy number sharing future lasts a b) → clock.faults b.driver ≡ clock.faults a.driver
-        → Telling (Still going) (exposed clock a.driver) going a.journal b.journal (exposed clock b.driver) → FillsJournal number sharing future a b → HoldsSamePlaces a b
+        → Telling (Still going) (exposed clock a.driver) going a.journal b.journal (exposed clock b.driver) → FillsJournal number sharing future a b → HoldsSamePlaces a b → ClosesEnded number a b
         → Proceeds number sharing clock future (lasting (turn_answer lacks)) a b
-    went_turn true a b has_timers rests turns answers callable shared polled faults told full held = record {
+    went_turn true a b has_timers rests turns answers callable shared polled faults told full held closes = record {
       has_timers = has_timers;
       rests = rests;
       turns = turns;
@@ -132,8 +137,9 @@ module _ {F O D P W U J A V : Type 0} where
       full = full;
       held = held;
       placed = tt;
+      closes = closes;
     }
-    went_turn false a b has_timers rests turns answers callable shared polled faults told full held = record {
+    went_turn false a b has_timers rests turns answers callable shared polled faults told full held closes = record {
       has_timers = has_timers;
       rests = rests;
       turns = turns;
@@ -146,6 +152,7 @@ module _ {F O D P W U J A V : Type 0} where
       full = full;
       held = held;
       placed = refl;
+      closes = closes;
     }
 
     -- the pause between two rounds, in which no turn ran
@@ -168,4 +175,5 @@ module _ {F O D P W U J A V : Type 0} where
           full = fills_not number sharing future a.cx a.journal b.journal idle.full;
           held = idle.held;
           placed = placed;
+          closes = closes_pause number (ended_tasks a) (ended_tasks b) idle.closes (is_timed a) r a.cx.parts b.cx.parts a.journal b.journal pauses;
         }

@@ -175,7 +175,8 @@ module _ {O P : Type 0} (number : O → ℕ) where
         replies = replies;
         ended = ended;
         entries = read.1.0 ∙ ap (λ ws. Now read.0 ∷ ws) step.0;
-        step = subst (λ x. Step x (event.Turn steps e) (report.Turn t replies ended) new) read.1.1 step.1;
+        step = subst (λ x. Step x (event.Turn steps e) (report.Turn t replies ended) new) read.1.1.0 step.1;
+        in_range = read.1.1.1;
       })
       p q
 

@@ -1,6 +1,6 @@
 -- How a journal relates to the machine.
-use Rattle.std.specs.Prelude.{◌≡◌, ℕ, Bool, true, false, List, [], ◌∷◌, ◌++◌, ◌-◌, Option, Some, None}
-use Rattle.mono_model.specs.Ticks.{down}
+use Rattle.std.specs.Prelude.{◌≡◌, ℕ, Bool, true, false, List, [], ◌∷◌, ◌++◌, ◌-◌, ◌≤◌, Option, Some, None}
+use Rattle.mono_model.specs.Ticks.{down, max_nanos}
 use Rattle.mono_time.specs.SlotRegistration.{FirstSlot}
 use Rattle.mono_time.specs.Timers.{registered_of}
 use Rattle.mono_time.specs.Registrations.{registered_after}
@@ -86,9 +86,9 @@ Stays old part new rest = (part ≡ rest) × (new ≡ old)
 abbrev pub IsStep : Event → Report → Machine → List Entry → Machine → List Entry → Type 0
 IsStep event report old part new rest = (part ≡ Ran event report ∷ rest) × Step old event report new
 
--- the clock was read
+-- the clock was read, and showed an instant
 abbrev pub IsReading : Machine → List Entry → Machine → List Entry → Type 0
-IsReading old part new rest = (n : ℕ) × ((part ≡ Now n ∷ rest) × (new ≡ old))
+IsReading old part new rest = (n : ℕ) × ((part ≡ Now n ∷ rest) × ((new ≡ old) × (n ≤ max_nanos)))
 
 -- the clock was read, and showed this
 abbrev pub ReadsAt : ℕ → Machine → List Entry → Machine → List Entry → Type 0

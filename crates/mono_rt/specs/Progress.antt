@@ -11,7 +11,7 @@ use Rattle.mono_rt.specs.Outputs.{AddsNone}
 use Rattle.mono_rt.specs.SpawnErrors.{HasPlace, OnCapacity, OnMemory}
 use Rattle.mono_rt.specs.Journals.{Stays}
 use Rattle.mono_rt.specs.Rounds.{IsSpawn, IsRefused}
-use Rattle.mono_rt.specs.Views.{tasks_of, futures_of, turn_of, turns_begun, is_timed, shared_of, Rests, Grows, RaisesTurns, GivesNoMore, CanRun, LeadsShared, PollsItsFuturesBy, FillsJournal, HoldsSamePlaces, TellsDriver}
+use Rattle.mono_rt.specs.Views.{tasks_of, futures_of, turn_of, turns_begun, is_timed, shared_of, Rests, Grows, RaisesTurns, GivesNoMore, CanRun, LeadsShared, PollsItsFuturesBy, FillsJournal, HoldsSamePlaces, TellsDriver, ended_tasks, ClosesEnded}
 use Rattle.mono_rt.specs.declared.contexts.Cx.{Cx}
 use Rattle.mono_rt.specs.declared.runtimes.Runtime.{Runtime}
 use Rattle.mono_rt.specs.declared.parts.errors.RunError.{RunError}
@@ -43,6 +43,7 @@ module _ {F O D P W U J A V : Type 0} where
     pub shared : shared_of new ≡ shared_of old
     pub full : new.journal.is_full ≡ old.journal.is_full
     pub held : HoldsSamePlaces old new
+    pub closes : ended_tasks new ≡ ended_tasks old
 
   -- The main task was made of this future, with this number. Room is held for the entry of its handle's drop.
   pub record MakesMain (number : O → ℕ) (future : F) (t : ℕ) (old new : Runtime F O D P W U J A V) : Type 0 where
@@ -76,3 +77,4 @@ module _ {F O D P W U J A V : Type 0} where
       pub full : FillsJournal number sharing future old new
       pub held : HoldsSamePlaces old new
       pub placed : HasPlace answer false
+      pub closes : ClosesEnded number old new

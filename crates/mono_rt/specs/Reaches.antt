@@ -47,9 +47,11 @@ module _ {F O P U W J A V : Type 0} (number : O → ℕ) (sharing : SharedOf W) 
     pub shared : sharing.leads c.shared d.shared
     -- and lists each task where it did, except the running one
     pub kept : Keeps sharing.lists c.parts.me c.shared d.shared
+    -- no task is made known or unknown to the inbox
+    pub same_wakers : d.wakers ≡ c.wakers
 
   pub sharing_itself : ((w : W) → sharing.leads w w) → (c : Cx F O P U W J A V) → ReachesSharing c c
-  sharing_itself itself c = record { parts = leads_itself number hosting_of c.parts; keeps = λ t h. refl; grows = le_refl _; aligned = λ h. h; lent = λ t h. h; same_waker = refl; handed = λ h. h; shared = itself c.shared; kept = λ p t is. inl is }
+  sharing_itself itself c = record { parts = leads_itself number hosting_of c.parts; keeps = λ t h. refl; grows = le_refl _; aligned = λ h. h; lent = λ t h. h; same_waker = refl; handed = λ h. h; shared = itself c.shared; kept = λ p t is. inl is; same_wakers = refl }
 
   pub sharing_on : ((u v w : W) → sharing.leads u v → sharing.leads v w → sharing.leads u w) → (a b c : Cx F O P U W J A V) → ReachesSharing a b → ReachesSharing b c → ReachesSharing a c
   sharing_on on a b c p q = record {
@@ -62,12 +64,13 @@ module _ {F O P U W J A V : Type 0} (number : O → ℕ) (sharing : SharedOf W) 
     handed = λ h. q.handed (p.handed h);
     shared = on a.shared b.shared c.shared p.shared q.shared;
     kept = λ place t is. elim (p.kept place t is) [ inl stays ↦ elim (q.kept place t stays) [ inl still ↦ inl still | inr mine ↦ inr (mine ∙ p.parts.same_me) ] | inr mine ↦ inr mine ];
+    same_wakers = q.same_wakers ∙ p.same_wakers;
   }
 
   -- a call on the parts alone
   pub by_parts : (c d : Cx F O P U W J A V) → Leads number hosting_of c.parts d.parts → next_number d.parts.tasks.tasks.table ≡ next_number c.parts.tasks.tasks.table → d.futures.items ≡ c.futures.items → d.futures.lent ≡ c.futures.lent → d.waker ≡ c.waker
-      → (c.has_handed_out ≡ true → d.has_handed_out ≡ true) → sharing.leads c.shared d.shared → d.shared ≡ c.shared → ReachesSharing c d
-  by_parts c d parts next same lent waker handed shared same_shared = record {
+      → (c.has_handed_out ≡ true → d.has_handed_out ≡ true) → sharing.leads c.shared d.shared → d.shared ≡ c.shared → d.wakers ≡ c.wakers → ReachesSharing c d
+  by_parts c d parts next same lent waker handed shared same_shared wakers = record {
     parts = parts;
     keeps = λ t h. ap (λ v. value_at v t) same;
     grows = rw same (le_refl _);
@@ -77,6 +80,7 @@ module _ {F O P U W J A V : Type 0} (number : O → ℕ) (sharing : SharedOf W) 
     handed = handed;
     shared = shared;
     kept = λ place t is. inl (ap (λ w. sharing.lists w place t) same_shared ∙ is);
+    same_wakers = wakers;
   }
 
   -- the shared value was changed, and nothing else
@@ -91,6 +95,7 @@ module _ {F O P U W J A V : Type 0} (number : O → ℕ) (sharing : SharedOf W) 
     handed = λ h. h;
     shared = shared;
     kept = kept;
+    same_wakers = refl;
   }
 
 -- the members of the state of who shares nothing

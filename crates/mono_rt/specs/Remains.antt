@@ -3,6 +3,8 @@ use Rattle.std.specs.Prelude.{◌≡◌, ℕ, true, []}
 use Rattle.mono_machine.specs.Machine.{Machine}
 use Rattle.mono_blocking.specs.JobSpawns.{strategy_of}
 use Rattle.mono_rt.specs.Refinement.{hosting_of, Matches}
+use Rattle.mono_rt.specs.EndedTasks.{all_in, ListsEnded}
+use Rattle.mono_rt.specs.Views.{Grows, ended_tasks}
 use Rattle.mono_rt.specs.declared.contexts.Cx.{Cx}
 use Rattle.mono_rt.specs.declared.runtimes.Runtime.{Runtime}
 
@@ -15,10 +17,11 @@ module _ {F O D P W U J A V : Type 0} where
   abbrev pub KeepsStrategy : (O → ℕ) → Runtime F O D P W U J A V → Runtime F O D P W U J A V → Type 0
   KeepsStrategy number old new = (m : Machine) → Matches number hosting_of old.cx.parts m → strategy_of new.cx.parts.blocking.pool ≡ strategy_of old.cx.parts.blocking.pool
 
-  -- No task that ended waits to be made unknown. That each task that ends waits for it is clause `closed` of
-  -- `Cx::complete_turn`; that each that waits is made unknown is clause `retired` of `Wakers::retire_ended`.
-  abbrev pub HasRetired : Runtime F O D P W U J A V → Type 0
-  HasRetired r = r.cx.wakers.ended.items ≡ []
+  -- Each task that ended was made unknown to the inbox, in order: those that had ended before, and those whose turns ended
+  -- ready among the entries by which the history grew. None waits for it.
+  pub record HasRetired (number : O → ℕ) (old new : Runtime F O D P W U J A V) : Type 0 where
+    pub unknown : Grows number (ListsEnded (ended_tasks old) (all_in new.cx.wakers.retired.entries)) old new
+    pub none : new.cx.wakers.ended.items ≡ []
 
   -- Nothing but the tasks and the futures changed.
   abbrev pub ChangesTasksAlone : Runtime F O D P W U J A V → Runtime F O D P W U J A V → Type 0

@@ -1,6 +1,6 @@
 -- The journal of one call that runs a main task: rounds of turns, and between two rounds a hand-in or a park.
 use Rattle.std.specs.Prelude.{⊤, ◌≡◌, ◌≢◌, ◌<◌, ◌≤◌, ◌⊎◌, ℕ, ◌+◌, ◌-◌, ◌*◌, zero, suc, min, Bool, true, false, List, [], ◌∷◌, length, Option, Some, None, Result, Ok, Err, AllPairs}
-use Rattle.mono_model.specs.Ticks.{down}
+use Rattle.mono_model.specs.Ticks.{down, max_nanos}
 use Rattle.mono_model.specs.Table.{value_at}
 use Rattle.mono_task.specs.Work.{has_output}
 use Rattle.mono_model.specs.Sleeps.{Arming, armed}
@@ -25,7 +25,7 @@ use Rattle.mono_rt.specs.declared.parts.journals.Entry.TheVariants.{Ran, Now, Pa
 -- Each relation below is between a machine with the entries that are still to come, and the machine with those that are
 -- left after it.
 
--- the clock is read, and the front has its turn
+-- the clock is read, which shows an instant, and the front has its turn
 pub record OneTurn (old : Machine) (part : List Entry) (new : Machine) (rest : List Entry) : Type 0 where
   pub now : ℕ
   pub steps : List TurnStep
@@ -35,6 +35,7 @@ pub record OneTurn (old : Machine) (part : List Entry) (new : Machine) (rest : L
   pub ended : Ended
   pub entries : part ≡ Now now ∷ Ran (event.Turn steps ending) (report.Turn task replies ended) ∷ rest
   pub step : Step old (event.Turn steps ending) (report.Turn task replies ended) new
+  pub in_range : now ≤ max_nanos
 
 -- The last turn is a step of its own, so that one more turn is one more step.
 abbrev pub Turns : ℕ → Machine → List Entry → Machine → List Entry → Type 0
@@ -114,9 +115,9 @@ IsWait false m now (Some v) = ⊥
 IsWait true m now None = IsOneArmed m → ⊥
 IsWait true m now (Some v) = WaitsUntil m now v
 
--- the clock is read and the driver is parked
+-- the clock is read, which shows an instant, and the driver is parked
 abbrev pub IsPark : Bool → Machine → List Entry → Machine → List Entry → Type 0
-IsPark has_timers old part new rest = (now : ℕ) × ((wait : Option ℕ) × (IsWait has_timers old now wait × ((part ≡ Now now ∷ Park wait ∷ rest) × (new ≡ old))))
+IsPark has_timers old part new rest = (now : ℕ) × ((wait : Option ℕ) × (IsWait has_timers old now wait × ((part ≡ Now now ∷ Park wait ∷ rest) × ((new ≡ old) × (now ≤ max_nanos)))))
 
 pub record Parks (has_timers : Bool) (old : Machine) (part : List Entry) (new : Machine) (rest : List Entry) : Type 0 where
   pub parked : Machine

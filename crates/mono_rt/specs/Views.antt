@@ -37,6 +37,7 @@ use Rattle.mono_rt.specs.ListedTasks.{ParksListed, ParksListedMain}
 use Rattle.mono_rt.specs.PossibleAnswers.{AnswersNoMore}
 use Rattle.mono_rt.specs.Pollable.{CanTurn}
 use Rattle.mono_rt.specs.DriverReadings.{Told, telling, TellingSo}
+use Rattle.mono_rt.specs.EndedTasks.{closed_in, ListsEnded}
 use Rattle.mono_rt.specs.Reaches.{IsAligned}
 use Rattle.mono_rt.specs.declared.contexts.Cx.{Cx}
 use Rattle.mono_rt.specs.declared.runtimes.Runtime.{Runtime}
@@ -145,6 +146,14 @@ module _ {F O D P W U J A V : Type 0} where
   -- The count of turns rose by the turns by which the history grew.
   abbrev pub RaisesTurns : (O → ℕ) → Runtime F O D P W U J A V → Runtime F O D P W U J A V → Type 0
   RaisesTurns number old new = Grows number (CountsTurns (turns_begun old) (turns_begun new)) old new
+
+  -- The tasks that ended, in order: those that were made unknown to the inbox, and those that wait for it.
+  abbrev pub ended_tasks : Runtime F O D P W U J A V → List ℕ
+  ended_tasks r = closed_in r.cx.wakers.retired.entries r.cx.wakers.ended.items
+
+  -- The tasks that ended grew by those whose turns ended ready among the entries by which the history grew.
+  abbrev pub ClosesEnded : (O → ℕ) → Runtime F O D P W U J A V → Runtime F O D P W U J A V → Type 0
+  ClosesEnded number old new = Grows number (ListsEnded (ended_tasks old) (ended_tasks new)) old new
 
   -- The history grew by what `Blocked` specifies for this answer, and the answer's number is that of its output.
   abbrev pub Blocks : (O → ℕ) → ℕ → Result O RunError → Runtime F O D P W U J A V → Runtime F O D P W U J A V → Type 0

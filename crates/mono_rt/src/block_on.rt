@@ -11,7 +11,7 @@ ghost use Rattle.mono_rt.specs.Pollable.{CanTurn};
 ghost use Rattle.mono_rt.specs.Remains.{KeepsContext, KeepsStrategy, HasRetired};
 ghost use Rattle.mono_rt.specs.DriverReadings.{going, Telling, Still, EndsWaited};
 ghost use Rattle.mono_rt.specs.Progress.{ending, lasting, Idles, Proceeds, MakesMain, MakesNone};
-ghost use Rattle.mono_rt.specs.Views.{exposed, Blocks, Rests, RaisesTurns, HasOwnFutures, is_at_limit, HoldsSamePlaces, GivesNoMore, LeadsShared, TellsDriver, PollsMainTask, StillPollsMainTask, FindsTasksListedMain, FillsJournal, CanRun};
+ghost use Rattle.mono_rt.specs.Views.{exposed, Blocks, Rests, RaisesTurns, HasOwnFutures, is_at_limit, HoldsSamePlaces, GivesNoMore, LeadsShared, is_timed, TellsDriver, PollsMainTask, StillPollsMainTask, FindsTasksListedMain, FillsJournal, CanRun, ClosesEnded};
 
 use crate::contexts::Cx;
 use crate::parts::RunError;
@@ -110,6 +110,7 @@ impl<F: Drop, O: Outcome + Drop, D: Driver, P: ThreadPool + Drop, W: SharedState
         ensures faults { D.faults self.new.driver ≡ D.faults self.old.driver }
         ensures told { Telling (Still going) (exposed D.Clock self.old.driver) going self.old.journal self.new.journal (exposed D.Clock self.new.driver) }
         ensures full { self.new.journal.is_full ≡ self.old.journal.is_full }
+        ensures wakers { self.new.cx.wakers ≡ self.old.cx.wakers }
     {
         if self.cx.parts.tasks.has_no_place() {
             return Err(self.cx.parts.refuse_main(&mut self.journal));
@@ -244,13 +245,15 @@ where
     /// value owed (law `a_spent_future_is_not_polled`). If the answer is Memory, this holds of the turn in which memory ran out, too (`still_polled`). The answer is Driver if and only if the driver's count of faults rose in
     /// this call, also if memory ran out after that (`faults`).
     ///
-    /// The runtime's count of turns rises by the turns of the history (`turns`).
+    /// The runtime's count of turns rises by the turns of the history (`turns`). It keeps its timers, or stays without them
+    /// (`timers`). Each reading before a turn or a park is an instant (`blocked`).
     ///
     /// Whom the shared value owes a wake after a poll, the runtime wakes before the turn ends. So at each park the value
     /// owes nothing, and each unfinished task whose last turn left it listed in the value is listed there still
     /// (`listed`).
     ///
-    /// Unless memory ran out, no task that ended waits to be made unknown to the inbox (`retired`).
+    /// Each task that ended was made unknown to the inbox, in order: those that had ended before, and those whose turns of the
+    /// history ended ready. So no ended task stays known (`retired`). If memory ran out, some may wait for it (`closed`).
     ///
     /// An Ok value is one that the main future gives, if each future has its task's number (`given`). No task may
     /// answer more afterwards than it might before (`answers`).
@@ -283,7 +286,7 @@ where
         ensures answers { GivesNoMore F.gives self.old self.new }
         ensures callable { CanRun F.TaskFuture self.new }
         ensures shared { LeadsShared W.leads self.old self.new }
-        ensures retired { OnMain result (HasRetired self.new) }
+        ensures retired { OnMain result (HasRetired O.output_number self.old self.new) }
         ensures rests { Rests self.new }
         ensures turns { RaisesTurns O.output_number self.old self.new }
         ensures polled { OnMain result (PollsMainTask O.output_number W.SharedState F.TaskFuture future self.old self.new) }
@@ -293,6 +296,8 @@ where
         ensures told { TellsDriver result D.Clock self.old self.new }
         ensures full { FillsJournal O.output_number W.SharedState F.TaskFuture self.old self.new }
         ensures held { HoldsSamePlaces self.old self.new }
+        ensures timers { is_timed self.new ≡ is_timed self.old }
+        ensures closed { ClosesEnded O.output_number self.old self.new }
     {
         match self.start_main(alloc, future) {
             Err(error) => Err(error),

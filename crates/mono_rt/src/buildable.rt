@@ -1,7 +1,7 @@
 // How a runtime is made from its parts.
 ghost use Rattle.std.specs.Prelude.{◌≡◌, ℕ, IfOk, IfErr, None, false, []};
 ghost use Rattle.mono_blocking.specs.JobSpawns.{strategy_of};
-ghost use Rattle.mono_rt.specs.Views.{RefinesStart, futures_of, shared_of, jobs_of, is_timed, registered_in, Rests, IsFirstAt};
+ghost use Rattle.mono_rt.specs.Views.{RefinesStart, futures_of, shared_of, jobs_of, is_timed, registered_in, Rests, IsFirstAt, ended_tasks};
 
 use crate::builder::{ENTRIES, RuntimeBuilder};
 use crate::parts::Journal;
@@ -46,6 +46,7 @@ impl<F: Drop, O: Outcome + Drop, D: Driver, P: ThreadPool + Drop, W: SharedState
         ensures unfull { IfOk result (λ runtime. runtime.journal.is_full ≡ false) }
         ensures first { IfOk result (IsFirstAt start) }
         ensures registered { IfOk result (λ runtime. (s : ℕ) → registered_in runtime s ≡ None) }
+        ensures ended { IfOk result (λ runtime. ended_tasks runtime ≡ []) }
     {
         let builder = RuntimeBuilder {
             driver,

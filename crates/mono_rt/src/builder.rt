@@ -11,7 +11,7 @@ ghost use Rattle.mono_rt.specs.Pollable.{SpawnsPollable};
 ghost use Rattle.mono_machine.specs.declared.events.Blocking.TheVariants as none;
 ghost use Rattle.mono_blocking.specs.declared.strategy.BlockingHandle.TheVariants.{Attached, Empty};
 ghost use Rattle.mono_blocking.specs.declared.strategy.BlockingStrategy.TheVariants.{Panic};
-ghost use Rattle.mono_rt.specs.Views.{exposed, RefinesStart, HasNewJournal, default_start, futures_of, shared_of, jobs_of, is_timed, registered_in, Rests, IsAtZero, HasOwnFutures};
+ghost use Rattle.mono_rt.specs.Views.{exposed, RefinesStart, HasNewJournal, default_start, futures_of, shared_of, jobs_of, is_timed, registered_in, Rests, IsAtZero, HasOwnFutures, ended_tasks};
 
 use crate::contexts::Cx;
 use crate::parts::{Journal, Parts, RunError, new_journal};
@@ -171,7 +171,7 @@ impl<D: Drop, P: Drop> RuntimeBuilder<D, P> {
 impl<D: Buildable, P: ThreadPool + Drop> RuntimeBuilder<D, P> {
     /// Makes a runtime. Its context refines the machine's start with the limits that were set (`stands`). The strategy
     /// is Attached if a pool is attached, else the one set before. The runtime has timers if and only if its driver has
-    /// them (`timers`). No future is in its table (`futures`), and nothing was done yet (`history`).
+    /// them (`timers`). No future is in its table (`futures`), nothing was done yet (`history`), and no task ended (`ended`).
     pub fn build<F: Drop, O: Outcome + Drop>(
         self,
         alloc: Global,
@@ -186,6 +186,7 @@ impl<D: Buildable, P: ThreadPool + Drop> RuntimeBuilder<D, P> {
         ensures rests { IfOk result (λ made. Rests made) }
         ensures me { IfOk result (λ made. IsAtZero made) }
         ensures registered { IfOk result (λ made. (s : ℕ) → registered_in made s ≡ None) }
+        ensures ended { IfOk result (λ made. ended_tasks made ≡ []) }
         ensures aligned { IfOk result (λ made. HasOwnFutures made) }
     {
         let made = D::build(alloc, self, ())?;
@@ -219,6 +220,7 @@ impl<D: Buildable, P: ThreadPool + Drop> RuntimeBuilder<D, P> {
         ensures rests { IfOk result (λ made. Rests made) }
         ensures me { IfOk result (λ made. IsAtZero made) }
         ensures registered { IfOk result (λ made. (s : ℕ) → registered_in made s ≡ None) }
+        ensures ended { IfOk result (λ made. ended_tasks made ≡ []) }
         ensures aligned { IfOk result (λ made. HasOwnFutures made) }
     {
         D::build(alloc, self, shared)
@@ -248,6 +250,7 @@ impl<D: Driver, P: ThreadPool + Drop> RuntimeBuilder<D, P> {
         ensures rests { IfOk result (λ made. made.cx.parts.tasks.turn ≡ None) }
         ensures me { IfOk result (λ made. (made.cx.parts.me ≡ 0) × (made.cx.parts.now ≡ start)) }
         ensures registered { IfOk result (λ made. (s : ℕ) → registered_of made.cx.parts.timers s ≡ None) }
+        ensures ended { IfOk result (λ made. ended_tasks made ≡ []) }
     {
         let RuntimeBuilder {
             driver,
@@ -308,6 +311,7 @@ pub trait Buildable: Driver + Sized {
         ensures rests { IfOk result (λ made. Rests made) }
         ensures me { IfOk result (λ made. IsAtZero made) }
         ensures registered { IfOk result (λ made. (s : ℕ) → registered_in made s ≡ None) }
+        ensures ended { IfOk result (λ made. ended_tasks made ≡ []) }
     {
         this.make(alloc, Self::has_timers(), zero(), shared)
     }

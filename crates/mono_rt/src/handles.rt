@@ -107,8 +107,9 @@ where
         ensures told { TellsDriver result D.Clock self.old self.new }
         ensures full { FillsJournal O.output_number W.SharedState F.TaskFuture self.old self.new }
         ensures held { HoldsSamePlaces self.old self.new }
-        ensures retired { HasRetired self.new }
+        ensures retired { HasRetired O.output_number self.old self.new }
         ensures strategy { KeepsStrategy O.output_number self.old self.new }
+        ensures timers { is_timed self.new ≡ is_timed self.old }
     {
         let answer = self.run(rt, alloc, handle.task(), turns);
         self.cx.wakers.retire_ended(rt);

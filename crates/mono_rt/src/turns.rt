@@ -5,7 +5,7 @@ ghost use Rattle.mono_machine.specs.Machine.{Machine};
 ghost use Rattle.mono_rt.specs.Record.{no_acts};
 ghost use Rattle.mono_rt.specs.Refinement.{hosting_of, Matches};
 ghost use Rattle.mono_table.specs.Slots.{lent_at};
-ghost use Rattle.mono_rt.specs.EndedTasks.{closed_in};
+ghost use Rattle.mono_rt.specs.EndedTasks.{closed_in, ended_at};
 ghost use Rattle.mono_rt.specs.Payments.{PaysOwed};
 ghost use Rattle.mono_rt.specs.Turns.{Begins, PaysAndPauses, PaysAndCompletes, Runs, Turn};
 ghost use Rattle.mono_rt.specs.PartTurns.{IsTurnOf};
@@ -37,6 +37,7 @@ impl<F: Drop, O: Outcome + Drop, P: ThreadPool + Drop, U: Unpark, W: SharedState
         ensures parts { self.new.parts ≡ self.old.parts }
         ensures futures { self.new.futures.items ≡ slice_set self.old.futures.items task future }
         ensures shared { self.new.shared ≡ self.old.shared }
+        ensures wakers { self.new.wakers ≡ self.old.wakers }
     {
         let waker = mem::replace(&mut self.waker, None);
         match future {
@@ -55,6 +56,7 @@ impl<F: Drop, O: Outcome + Drop, P: ThreadPool + Drop, U: Unpark, W: SharedState
         ensures noted { self.new.parts.is_out_of_memory ≡ not (is_some self.new.waker) }
         ensures future { result.1 ≡ value_at self.old.futures.items result.0 }
         ensures lent { IfSome result.1 (λ future. lent_at self.new.futures result.0 ≡ true) }
+        ensures closed { closed_in self.new.wakers.retired.entries self.new.wakers.ended.items ≡ closed_in self.old.wakers.retired.entries self.old.wakers.ended.items }
     {
         let Ok(task) = self.parts.tasks.begin_turn() else {
             unreachable!()
@@ -85,6 +87,7 @@ impl<F: Drop, O: Outcome + Drop, P: ThreadPool + Drop, U: Unpark, W: SharedState
         requires lent { IfSome future (λ f. lent_at self.old.futures task ≡ true) }
         ensures pauses { PaysAndPauses O.output_number W.SharedState task future result self.old self.new }
         ensures futures { self.new.futures.items ≡ slice_set self.old.futures.items task future }
+        ensures wakers { self.new.wakers ≡ self.old.wakers }
     {
         self.pay_owed();
         let ended = self.parts.tasks.end_turn(Poll::Pending);
@@ -132,6 +135,7 @@ where
         requires lent { IfSome taken (λ f. lent_at self.old.futures task ≡ true) }
         ensures callable { EachCanPoll F.can_poll self.new.futures.items }
         ensures runs { Runs O.output_number W.SharedState F.TaskFuture taken task result.0 result.1 self.old self.new }
+        ensures closed { closed_in self.new.wakers.retired.entries self.new.wakers.ended.items ≡ closed_in self.old.wakers.retired.entries self.old.wakers.ended.items ++ ended_at result.0 task }
     {
         let Some(mut future) = taken else {
             return (End::Pending, self.pause_turn(task, None));
@@ -161,6 +165,7 @@ where
         ensures shared { W.leads self.old.shared self.new.shared }
         ensures has_timers { self.new.parts.has_timers ≡ self.old.parts.has_timers }
         ensures rests { self.new.parts.tasks.turn ≡ None }
+        ensures closed { closed_in self.new.wakers.retired.entries self.new.wakers.ended.items ≡ closed_in self.old.wakers.retired.entries self.old.wakers.ended.items ++ ended_at result.1 result.0 }
     {
         let (task, taken) = self.begin_turn(rt, alloc, now);
         let (end, ended) = self.run_turn(rt, alloc, task, taken);

@@ -1,5 +1,5 @@
 // The remote wakers of a runtime's tasks, and when the inbox learns of them.
-ghost use Rattle.std.specs.Prelude.{◌≡◌, ◌+◌, ◌++◌, ◌∷◌, ◌<◌, ◌⊎◌, [], IfSome, IfNone, MatchOption, length, vec_len, vec_capacity};
+ghost use Rattle.std.specs.Prelude.{◌≡◌, ◌+◌, ◌++◌, ◌∷◌, ◌<◌, ◌⊎◌, [], IfOk, IfSome, IfNone, MatchOption, length, vec_len, vec_capacity};
 ghost use Rattle.mono_rt.specs.Drains.{IsReady};
 ghost use Rattle.mono_rt.specs.EndedTasks.{all_in, closed_in};
 
@@ -53,7 +53,9 @@ impl Tells<u64, List<u64>> for Alone {
 
 impl<U: Unpark> Wakers<U> {
     /// Makes an inbox with room for `entries` tasks, none of which is known.
-    pub(crate) fn new(alloc: Global, entries: usize, unpark: U) -> Result<Wakers<U>, AllocError> {
+    pub(crate) fn new(alloc: Global, entries: usize, unpark: U) -> Result<Wakers<U>, AllocError>
+        ensures { IfOk result (λ wakers. closed_in wakers.retired.entries wakers.ended.items ≡ []) }
+    {
         let ended = Vec::with_capacity(alloc, LOT)?;
         Ok(Wakers {
             inbox: Inbox::new(alloc, entries, unpark)?,
@@ -76,7 +78,9 @@ impl<U: Unpark> Wakers<U> {
         task: u64,
         had: Option<RemoteWaker<U>>,
     ) -> Option<RemoteWaker<U>>
-        ensures { IfSome result (λ waker. waker ≡ task) }
+        ensures own { IfSome result (λ waker. waker ≡ task) }
+        ensures ended { self.new.ended ≡ self.old.ended }
+        ensures retired { self.new.retired ≡ self.old.retired }
     {
         if let Some(waker) = had {
             if waker.task() == task {
@@ -95,7 +99,9 @@ impl<U: Unpark> Wakers<U> {
 
     /// Makes a waker of a task that is known.
     fn made(&mut self, task: u64) -> Option<RemoteWaker<U>>
-        ensures { IfSome result (λ waker. waker ≡ task) }
+        ensures own { IfSome result (λ waker. waker ≡ task) }
+        ensures ended { self.new.ended ≡ self.old.ended }
+        ensures retired { self.new.retired ≡ self.old.retired }
     {
         match mem::replace(&mut self.spare, None) {
             Some(spare) => Some(spare.of_task(task)),
@@ -104,7 +110,10 @@ impl<U: Unpark> Wakers<U> {
     }
 
     /// Makes this task and a row of tasks after it known, as far as memory lasts.
-    fn know<R: Host>(&mut self, rt: &R, alloc: Global, task: u64) {
+    fn know<R: Host>(&mut self, rt: &R, alloc: Global, task: u64)
+        ensures ended { self.new.ended ≡ self.old.ended }
+        ensures retired { self.new.retired ≡ self.old.retired }
+    {
         let until = task.saturating_add(LOT as u64);
         self.known = self.inbox.lock(rt).know_row(alloc, self.known, until);
     }

@@ -9,7 +9,7 @@ use Rattle.mono_rt.specs.Views.{Blocks, Refines, is_timed}
 use Rattle.mono_rt.specs.declared.runtimes.Runtime.{Runtime}
 use Rattle.mono_rt.specs.declared.parts.errors.RunError.{RunError}
 use Rattle.mono_rt.specs.declared.parts.journals.Entry.{Entry}
-use Rattle.use_check.specs.WholeCalls.{Call, Calls, InRange, IsWholeJournal}
+use Rattle.use_check.specs.WholeCalls.{Call, Calls, IsWholeJournal}
 use Rattle.use_check.specs.LeftCalls.{called, history_of, Leaves}
 use Rattle.use_check.proofs.WholeCallLemmas.{whole_calls_pass}
 
@@ -21,27 +21,27 @@ calls_more t [] c old mid new part left rest (is, same) last =
 calls_more t (first ∷ calls) c old mid new part left rest (next, (more, (is, others))) last = (next, (more, (is, calls_more t calls c next mid new more left rest others last)))
 
 module _ {F O D P W U J A V : Type 0} (number : O → ℕ) (turns : ℕ) (answer : Result O RunError) (old new : Runtime F O D P W U J A V) where
-  pub leaves_more : (limits : Limits) (strategy : Blocking) (calls : List Call) → Blocks number turns answer old new → Leaves number limits strategy (is_timed old) calls old
-      → Leaves number limits strategy (is_timed old) (calls ++ called number turns answer ∷ []) new
-  leaves_more limits strategy calls blocks left =
+  pub leaves_more : (limits : Limits) (strategy : Blocking) (calls : List Call) → Blocks number turns answer old new → is_timed new ≡ is_timed old → Leaves number limits strategy calls old
+      → Leaves number limits strategy (calls ++ called number turns answer ∷ []) new
+  leaves_more limits strategy calls blocks timers left =
       let did = blocks.did left.machine left.refines in
       record {
         machine = did.went.new;
-        entries = λ rest. subst (λ xs. Calls (is_timed old) (calls ++ called number turns answer ∷ []) (start_machine limits strategy) xs did.went.new rest)
+        entries = λ rest. subst (λ t. Calls t (calls ++ called number turns answer ∷ []) (start_machine limits strategy) (history_of new ++ rest) did.went.new rest) (sym timers)
+            (subst (λ xs. Calls (is_timed old) (calls ++ called number turns answer ∷ []) (start_machine limits strategy) xs did.went.new rest)
             (sym (ap (λ xs. xs ++ rest) did.went.grew ∙ append_assoc (history_of old) did.went.part rest))
             (calls_more (is_timed old) calls (called number turns answer) (start_machine limits strategy) left.machine did.went.new (history_of old ++ (did.went.part ++ rest)) (did.went.part ++ rest) rest
-            (left.entries (did.went.part ++ rest)) (did.is rest));
+            (left.entries (did.went.part ++ rest)) (did.is rest)));
         refines = did.went.matches;
       }
 
 module _ {F O D P W U J A V : Type 0} (number : O → ℕ) where
-  pub leaves_whole : (limits : Limits) (strategy : Blocking) (has_timers : Bool) (calls : List Call) (r : Runtime F O D P W U J A V) → Leaves number limits strategy has_timers calls r → InRange (history_of r)
-      → IsWholeJournal (start_machine limits strategy) calls (history_of r)
-  leaves_whole limits strategy has_timers calls r left range =
-      let are : Calls has_timers calls (start_machine limits strategy) (history_of r) left.machine [] =
-      subst (λ xs. Calls has_timers calls (start_machine limits strategy) xs left.machine []) (append-nil (history_of r)) (left.entries [])
+  pub leaves_whole : (limits : Limits) (strategy : Blocking) (calls : List Call) (r : Runtime F O D P W U J A V) → Leaves number limits strategy calls r → IsWholeJournal (start_machine limits strategy) calls (history_of r)
+  leaves_whole limits strategy calls r left =
+      let are : Calls (is_timed r) calls (start_machine limits strategy) (history_of r) left.machine [] =
+      subst (λ xs. Calls (is_timed r) calls (start_machine limits strategy) xs left.machine []) (append-nil (history_of r)) (left.entries [])
       in
-      whole_calls_pass limits strategy has_timers calls (history_of r) left.machine are range
+      whole_calls_pass limits strategy (is_timed r) calls (history_of r) left.machine are
 
-  pub leaves_none : (limits : Limits) (strategy : Blocking) (has_timers : Bool) (r : Runtime F O D P W U J A V) → Refines number r (start_machine limits strategy) → history_of r ≡ [] → Leaves number limits strategy has_timers [] r
-  leaves_none limits strategy has_timers r refines none = record { machine = start_machine limits strategy; entries = λ rest. (ap (λ xs. xs ++ rest) none, refl); refines = refines }
+  pub leaves_none : (limits : Limits) (strategy : Blocking) (r : Runtime F O D P W U J A V) → Refines number r (start_machine limits strategy) → history_of r ≡ [] → Leaves number limits strategy [] r
+  leaves_none limits strategy r refines none = record { machine = start_machine limits strategy; entries = λ rest. (ap (λ xs. xs ++ rest) none, refl); refines = refines }

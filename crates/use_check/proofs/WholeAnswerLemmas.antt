@@ -27,7 +27,7 @@ use Rattle.mono_rt.specs.Journals.{events_in, reports_in}
 use Rattle.mono_rt.specs.declared.parts.errors.RunError.{RunError}
 use Rattle.mono_rt.specs.declared.parts.journals.Entry.{Entry}
 use Rattle.mono_rt.specs.declared.parts.journals.Entry.TheVariants.{Ran, Now, Park}
-use Rattle.use_check.specs.WholeCalls.{Call, Calls, InRange, mark_of, output_mark, last_mark, IsWholeJournal}
+use Rattle.use_check.specs.WholeCalls.{Call, Calls, mark_of, output_mark, last_mark, IsWholeJournal}
 use Rattle.use_check.specs.WholeAnswers.{line_of, output_line, last_line, Spells, WholeAnswersAreYes}
 use Rattle.use_check.proofs.WholeCallLemmas.{whole_calls_pass}
 
@@ -136,6 +136,6 @@ one_answer limits strategy input said (answer.No failure) are whole fails =
     absurd (no_cause limits strategy said failure.line failure.cause whole (subst (λ xs. FailsWhole limits strategy xs failure.line failure.cause) same fails.fails))
 
 pub whole_answers_are_yes : WholeAnswersAreYes
-whole_answers_are_yes limits strategy has_timers calls part new input told are range spells answered =
-    let whole : IsWholeJournal (start_machine limits strategy) calls part = whole_calls_pass limits strategy has_timers calls part new are range in
+whole_answers_are_yes limits strategy has_timers calls part new input told are spells answered =
+    let whole : IsWholeJournal (start_machine limits strategy) calls part = whole_calls_pass limits strategy has_timers calls part new are in
     one_answer limits strategy input spells.said told spells.are_lines (whole_lines (start_machine limits strategy) calls part spells.said whole spells.is) answered

@@ -64,27 +64,31 @@ module _ (t : Bool) (tail : List Mark) where
   record Passed (s : Stage) (m : Machine) (part : List Entry) : Type 0 where
     run : (new : Machine) × Run m (events_in part) (reports_in part) new
     ordered : (n : ℕ) → stop_at t n s (map mark_of part ++ tail) ≡ None
+    in_range : InRange part
 
   abbrev Good : Stage → Machine → List Entry → Type 0
-  Good s m part = InRange part → Passed s m part
+  Good s m part = Passed s m part
 
   ran : (s next : Stage) (old mid : Machine) (e : Event) (r : Report) (rest : List Entry) → next_stage t s (pair_mark e r) ≡ Some next → Step old e r mid → Good next mid rest → Good s old (Ran e r ∷ rest)
-  ran s next old mid e r rest is step good range =
-      let after : Passed next mid rest = good range in
-      record {
-        run = (after.run.0, (mid, step, after.run.1));
-        ordered = λ n. ap (λ o. stop_or (n, s) o (λ later. stop_at t (n + 1) later (map mark_of rest ++ tail))) is ∙ after.ordered (n + 1);
-      }
+  ran s next old mid e r rest is step good = record {
+    run = (good.run.0, (mid, step, good.run.1));
+    ordered = λ n. ap (λ o. stop_or (n, s) o (λ later. stop_at t (n + 1) later (map mark_of rest ++ tail))) is ∙ good.ordered (n + 1);
+    in_range = good.in_range;
+  }
 
-  reads : (s next : Stage) (m : Machine) (n : ℕ) (rest : List Entry) → (n ≤ max_nanos → next_stage t s (mark.Now n) ≡ Some next) → Good next m rest → Good s m (Now n ∷ rest)
-  reads s next m n rest is good range =
-      let after : Passed next m rest = good range.1 in
-      record { run = after.run; ordered = λ k. ap (λ o. stop_or (k, s) o (λ later. stop_at t (k + 1) later (map mark_of rest ++ tail))) (is range.0) ∙ after.ordered (k + 1) }
+  reads : (s next : Stage) (m : Machine) (n : ℕ) (rest : List Entry) → n ≤ max_nanos → (n ≤ max_nanos → next_stage t s (mark.Now n) ≡ Some next) → Good next m rest → Good s m (Now n ∷ rest)
+  reads s next m n rest below is good = record {
+    run = good.run;
+    ordered = λ k. ap (λ o. stop_or (k, s) o (λ later. stop_at t (k + 1) later (map mark_of rest ++ tail))) (is below) ∙ good.ordered (k + 1);
+    in_range = (below, good.in_range);
+  }
 
   parks : (s next : Stage) (m : Machine) (wait : Option ℕ) (rest : List Entry) → next_stage t s (mark.Park wait) ≡ Some next → Good next m rest → Good s m (Park wait ∷ rest)
-  parks s next m wait rest is good range =
-      let after : Passed next m rest = good range in
-      record { run = after.run; ordered = λ k. ap (λ o. stop_or (k, s) o (λ later. stop_at t (k + 1) later (map mark_of rest ++ tail))) is ∙ after.ordered (k + 1) }
+  parks s next m wait rest is good = record {
+    run = good.run;
+    ordered = λ k. ap (λ o. stop_or (k, s) o (λ later. stop_at t (k + 1) later (map mark_of rest ++ tail))) is ∙ good.ordered (k + 1);
+    in_range = good.in_range;
+  }
 
   stays : (P : Machine → List Entry → Type 0) (old new : Machine) (part rest : List Entry) → Stays old part new rest → P new rest → P old part
   stays P old new part rest (is, same) good = subst (λ xs. P old xs) (sym is) (subst (λ m. P m rest) same good)
@@ -103,7 +107,7 @@ module _ (t : Bool) (tail : List Mark) where
       let e : Event = event.Turn one.steps one.ending in
       let told : Report = report.Turn one.task one.replies one.ended in
       subst (Good (round_at main old) old) (sym one.entries)
-      (reads (round_at main old) (stage.Reading main (tick_of old) (down one.now)) old one.now (Ran e told ∷ rest) (reading_is main (tick_of old) one.now)
+      (reads (round_at main old) (stage.Reading main (tick_of old) (down one.now)) old one.now (Ran e told ∷ rest) one.in_range (reading_is main (tick_of old) one.now)
       (ran (stage.Reading main (tick_of old) (down one.now)) (round_at main old) old new e told rest refl one.step
       (subst (λ g. Good (stage.Round main g) new rest) same good)))
 
@@ -150,9 +154,9 @@ module _ (t : Bool) (tail : List Mark) where
   -- ---- parks
 
   parked : (main : ℕ) (old new : Machine) (part rest : List Entry) → IsPark t old part new rest → Good (parked_at main new) new rest → Good (round_at main old) old part
-  parked main old new part rest (now, (wait, (is, (entries, same)))) good =
+  parked main old new part rest (now, (wait, (is, (entries, (same, below))))) good =
       subst (Good (round_at main old) old) (sym entries)
-      (reads (round_at main old) (stage.Reading main (tick_of old) (down now)) old now (Park wait ∷ rest) (reading_is main (tick_of old) now)
+      (reads (round_at main old) (stage.Reading main (tick_of old) (down now)) old now (Park wait ∷ rest) below (reading_is main (tick_of old) now)
       (parks (stage.Reading main (tick_of old) (down now)) (parked_at main old) old wait rest (park_is t main old now wait is)
       (subst (λ m. Good (parked_at main m) m rest) same good)))
 
@@ -362,7 +366,7 @@ module _ (t : Bool) (tail : List Mark) where
 -- ---- calls, one after the other
 
 nothing_left : (t : Bool) (m : Machine) → Between t [] m []
-nothing_left t m = (λ range. record { run = (m, refl); ordered = λ n. refl }, λ output range. record { run = (m, refl); ordered = λ n. refl })
+nothing_left t m = (record { run = (m, refl); ordered = λ n. refl; in_range = tt }, λ output. record { run = (m, refl); ordered = λ n. refl; in_range = tt })
 
 all_calls : (t : Bool) (calls : List Call) (old new : Machine) (part rest : List Entry) → Calls t calls old part new rest → Between t [] new rest → Between t [] old part
 all_calls t [] old new part rest none both = stays t [] (Between t []) old new part rest none both
@@ -372,7 +376,8 @@ all_calls t (c ∷ calls) old new part rest (mid, (left, (first, others))) both 
 
 -- the line of the output behind the last call
 output_line : (t : Bool) (answer : Result ℕ RunError) (m : Machine) → After t (output_mark answer) answer m []
-output_line t (Ok output) m = λ range. record {
+output_line t (Ok output) m = record {
+  in_range = tt;
   run = (m, refl);
   ordered = λ n. ap (λ b. stop_or (n, dropped_at (Some output) m) (cond b (Some (start_at m)) None) (λ later. stop_at t (n + 1) later [])) (eq-eqb output output refl);
 }
@@ -406,12 +411,13 @@ in_order true marks none = ap (λ x. later_of x (misplaced_on false marks)) (non
 in_order false marks none = ap (λ x. later_of (misplaced_on true marks) x) (none 1) ∙ later_none (misplaced_on true marks)
 
 pub whole_calls_pass : WholeCallsPass
-whole_calls_pass limits strategy has_timers calls part new are range =
+whole_calls_pass limits strategy has_timers calls part new are =
     let start : Machine = start_machine limits strategy in
-    let plain : Passed has_timers [] (stage.Start 0) start part = (all_calls has_timers calls start new part [] are (nothing_left has_timers new)).0 range in
-    let with_line : Passed has_timers (last_mark calls) (stage.Start 0) start part = (with_output has_timers calls start new part are).0 range in
+    let plain : Passed has_timers [] (stage.Start 0) start part = (all_calls has_timers calls start new part [] are (nothing_left has_timers new)).0 in
+    let with_line : Passed has_timers (last_mark calls) (stage.Start 0) start part = (with_output has_timers calls start new part are).0 in
     record {
       run = plain.run;
       ordered = subst IsOrdered (append-nil (map mark_of part)) (in_order has_timers (map mark_of part ++ []) plain.ordered);
+      in_range = plain.in_range;
       ordered_with_output = in_order has_timers (map mark_of part ++ last_mark calls) with_line.ordered;
     }

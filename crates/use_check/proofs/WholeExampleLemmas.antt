@@ -1,5 +1,5 @@
 -- Journals that are not whole.
-use Rattle.std.proofs.Common.{◌≡◌, ℕ, ◌+◌, List, [], ◌∷◌, map, Some, None, refl, sym, ◌∙◌}
+use Rattle.std.proofs.Common.{◌≡◌, ℕ, ◌+◌, List, [], ◌∷◌, map, Some, None, refl, sym, ◌∙◌, arith}
 use Rattle.mono_model.specs.Ticks.{max_nanos}
 use Rattle.mono_trace.specs.Order.{misplaced}
 use Rattle.mono_trace.specs.declared.marks.Stage.{Stage}
@@ -16,7 +16,7 @@ out_of_order : (part : List Entry) (at : ℕ × Stage) → misplaced (map mark_o
 out_of_order part at is = λ start calls whole. none_some at (sym whole.ordered ∙ is)
 
 pub turn_is_whole : TurnIsWhole
-turn_is_whole = record { run = (_, (_, (refl, refl), (_, (refl, refl), (_, (refl, refl), refl)))); ordered = refl; ordered_with_output = refl }
+turn_is_whole = record { run = (_, (_, (refl, refl), (_, (refl, refl), (_, (refl, refl), refl)))); ordered = refl; ordered_with_output = refl; in_range = (omega arith, tt) }
 
 pub half_is_none : HalfIsNone
 half_is_none = out_of_order (spawn ∷ Now 0 ∷ turn ∷ []) (4, stage.Round 0 0) refl

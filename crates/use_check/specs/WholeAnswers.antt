@@ -12,7 +12,7 @@ use Rattle.mono_trace_lines.specs.declared.journal.JournalLine.TheVariants as li
 use Rattle.mono_rt.specs.declared.parts.errors.RunError.{RunError}
 use Rattle.mono_rt.specs.declared.parts.journals.Entry.{Entry}
 use Rattle.mono_rt.specs.declared.parts.journals.Entry.TheVariants.{Ran, Now, Park}
-use Rattle.use_check.specs.WholeCalls.{Call, Calls, InRange}
+use Rattle.use_check.specs.WholeCalls.{Call, Calls}
 
 -- the line of an entry
 abbrev pub line_of : Entry → JournalLine
@@ -40,11 +40,11 @@ pub record Spells (calls : List Call) (part : List Entry) (input : List ℕ) : T
 abbrev pub WholeAnswersAreYes : Type 0
 WholeAnswersAreYes =
     (limits : Limits) (strategy : Blocking) (has_timers : Bool) (calls : List Call) (part : List Entry) (new : Machine) (input : List ℕ) (told : Answer)
-    → Calls has_timers calls (start_machine limits strategy) part new [] → InRange part → Spells calls part input
+    → Calls has_timers calls (start_machine limits strategy) part new [] → Spells calls part input
     → IsWholeAnswer limits strategy input told → told ≡ answer.Yes
 
 -- The answer to the text is yes if calls left its journal.
 abbrev pub IsYesIfLeft : Limits → Blocking → List ℕ → Answer → Type 0
 IsYesIfLeft limits strategy input told =
     (has_timers : Bool) (calls : List Call) (part : List Entry) (new : Machine)
-    → Calls has_timers calls (start_machine limits strategy) part new [] → InRange part → Spells calls part input → told ≡ answer.Yes
+    → Calls has_timers calls (start_machine limits strategy) part new [] → Spells calls part input → told ≡ answer.Yes

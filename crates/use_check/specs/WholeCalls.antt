@@ -50,14 +50,15 @@ last_mark (call ∷ []) = output_mark call.answer
 last_mark (call ∷ next ∷ calls) = last_mark (next ∷ calls)
 
 -- The pairs are those of a run from this machine, and the lines are in the order of whole calls, with and without the line of
--- the output at the end.
+-- the output at the end. Each reading before a turn or a park is an instant.
 pub record IsWholeJournal (start : Machine) (calls : List Call) (part : List Entry) : Type 0 where
   pub run : IsRun start (events_in part) (reports_in part)
   pub ordered : IsOrdered (map mark_of part)
   pub ordered_with_output : IsOrdered (map mark_of part ++ last_mark calls)
+  pub in_range : InRange part
 
 -- Each journal that calls leave on a new runtime is whole.
 abbrev pub WholeCallsPass : Type 0
 WholeCallsPass =
     (limits : Limits) (strategy : Blocking) (has_timers : Bool) (calls : List Call) (part : List Entry) (new : Machine)
-    → Calls has_timers calls (start_machine limits strategy) part new [] → InRange part → IsWholeJournal (start_machine limits strategy) calls part
+    → Calls has_timers calls (start_machine limits strategy) part new [] → IsWholeJournal (start_machine limits strategy) calls part

@@ -10,8 +10,7 @@ use mono_trace_lines::{Answer, check_whole};
 use std::alloc::{AllocError, Global};
 
 /// Runs one more call of `block_on` on a runtime. If the calls so far left the runtime's history, this call leaves it with
-/// them, whatever it answers (`left`). Then the whole history passes the check, if no reading is above the greatest instant
-/// (`whole`).
+/// them, whatever it answers (`left`). Then the whole history passes the check, for every driver and clock (`whole`).
 pub fn one_more_call<F, O, D, P, W, R: Host>(
     rt: &R,
     alloc: Global,

@@ -8,9 +8,8 @@ ghost use Rattle.use_check.specs.ReadingRanges.{ShownReadingsAreInRange};
 ///
 /// Its pairs are those of a run from the machine's start, and its lines are in the order that `check --whole` asks for. So it
 /// is for any answers: outputs, a spent budget, a driver that failed, a main task that was refused, and memory that ran out in
-/// any call. The clock may fall, and a task may have taken the main task's output. The runtime has timers or it has none. No
-/// reading is above the greatest instant, which the clauses of `block_on` say of the readings that its driver exposes (law
-/// `shown_readings_are_in_range`).
+/// any call. The clock may fall, and a task may have taken the main task's output. The runtime has timers or it has none. Each
+/// reading before a turn or a park is an instant.
 pub fn whole_calls_pass()
     ensures { WholeCallsPass }
 {}

@@ -137,7 +137,11 @@ impl<O: Outcome + Drop, B: Drop> Parts<O, B> {
         ensures added { Added (sleeps_of self.old.timers) (nanos_of deadline) result (sleeps_of self.new.timers) }
         ensures memory { result ≡ Err Memory → self.new.is_out_of_memory ≡ true }
         ensures tasks { self.new.tasks ≡ self.old.tasks }
-        ensures kept { self.new ≡ record self.old { timers = self.new.timers; acts = noted_sleep self.old.acts (nanos_of deadline) result; is_out_of_memory = lacks_sleep self.old.is_out_of_memory result } }
+        ensures kept { self.new ≡ record self.old {
+          timers = self.new.timers;
+          acts = noted_sleep self.old.acts (nanos_of deadline) result;
+          is_out_of_memory = lacks_sleep self.old.is_out_of_memory result;
+        } }
         ensures leads { (hosting : B → Hosting) → Leads O.output_number hosting self.old self.new }
     {
         let step = TurnStep::Act(Act::NewSleep(deadline.as_nanos()));
@@ -192,7 +196,11 @@ impl<O: Outcome + Drop, B: Drop> Parts<O, B> {
         ensures answer { result ≡ without_waker (sleep_reset_answer (sleeps_of self.old.timers) sleep (nanos_of deadline)) }
         ensures sleeps { sleeps_of self.new.timers ≡ with_reset_sleep (sleeps_of self.old.timers) sleep (nanos_of deadline) }
         ensures tasks { self.new.tasks ≡ schedule.with_tasks self.old.tasks (woken_if_any self.old.tasks.tasks (waker_in (sleep_reset_answer (sleeps_of self.old.timers) sleep (nanos_of deadline)))) }
-        ensures kept { self.new ≡ record self.old { tasks = self.new.tasks; timers = self.new.timers; acts = noted_reset self.old.acts (sleeps_of self.old.timers).greatest sleep (nanos_of deadline) result } }
+        ensures kept { self.new ≡ record self.old {
+          tasks = self.new.tasks;
+          timers = self.new.timers;
+          acts = noted_reset self.old.acts (sleeps_of self.old.timers).greatest sleep (nanos_of deadline) result;
+        } }
         ensures leads { (hosting : B → Hosting) → Leads O.output_number hosting self.old self.new }
     {
         let nanos = deadline.as_nanos();

@@ -71,7 +71,8 @@ where
 
 /// Shows that no call failed if the driver cannot fail.
 pub fn a_sure_driver_does_not_fail()
-    ensures { (old new : Told) (after : Course) (part : List Entry) → old.can_fail ≡ false → Tells old going part new after → (after ≡ failed → ⊥) × (new.faults ≡ old.faults) × (new.can_fail ≡ false) }
+    ensures { (old new : Told) (after : Course) (part : List Entry) → old.can_fail ≡ false → Tells old going part new after →
+        (after ≡ failed → ⊥) × (new.faults ≡ old.faults) × (new.can_fail ≡ false) }
 {}
 
 /// Shows that the answer is not Driver if the driver cannot fail.

@@ -88,6 +88,7 @@ impl<O: Outcome + Drop, P: ThreadPool + Drop> Parts<O, Blockings<P>> {
         ensures output { (output : O) → drop_answer self.old.tasks.tasks main ≡ Ok (Some output) → result ≡ Some output }
         ensures dropped { Does O.output_number (DropsFor main (option_map O.output_number result)) self.old self.new journal.old journal.new }
         ensures left { self.new.tasks.tasks ≡ join_dropped self.old.tasks.tasks main }
+        ensures has_timers { self.new.has_timers ≡ self.old.has_timers }
         ensures turn { self.new.tasks.turn ≡ self.old.tasks.turn }
         ensures turns { self.new.tasks.turns ≡ self.old.tasks.turns }
         ensures told { (told : Told) (course : Course) → Telling (Still course) told course journal.old journal.new told }

@@ -1,4 +1,3 @@
-use Rattle.mono_rt.specs.Views.{is_timed}
 use Rattle.use_check.specs.LeftCalls.{called}
 use Rattle.std.proofs.Common.{[], ◌∷◌, ◌++◌}
 use Rattle.use_check.proofs.LeftCallLemmas.{leaves_more, leaves_whole}
@@ -6,9 +5,9 @@ use Rattle.use_check.proofs.calls.one_more_call.Goals as goal
 
 pub returns-clause-left : goal.returns-clause-left
 returns-clause-left g c = λ limits strategy calls left.
-    leaves_more g.O.Outcome.output_number c.args.turns c.block_on.result c.args.runtime.now c.block_on.new.self limits strategy calls c.block_on.ensures.blocked left
+    leaves_more g.O.Outcome.output_number c.args.turns c.block_on.result c.args.runtime.now c.block_on.new.self limits strategy calls c.block_on.ensures.blocked c.block_on.ensures.timers left
 
 pub returns-clause-whole : goal.returns-clause-whole
-returns-clause-whole g c = λ limits strategy calls left range.
-    leaves_whole g.O.Outcome.output_number limits strategy (is_timed c.args.runtime.now) (calls ++ called g.O.Outcome.output_number c.args.turns c.block_on.result ∷ []) c.block_on.new.self
-    (leaves_more g.O.Outcome.output_number c.args.turns c.block_on.result c.args.runtime.now c.block_on.new.self limits strategy calls c.block_on.ensures.blocked left) range
+returns-clause-whole g c = λ limits strategy calls left.
+    leaves_whole g.O.Outcome.output_number limits strategy (calls ++ called g.O.Outcome.output_number c.args.turns c.block_on.result ∷ []) c.block_on.new.self
+    (leaves_more g.O.Outcome.output_number c.args.turns c.block_on.result c.args.runtime.now c.block_on.new.self limits strategy calls c.block_on.ensures.blocked c.block_on.ensures.timers left)

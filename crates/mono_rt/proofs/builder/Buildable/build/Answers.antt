@@ -44,3 +44,6 @@ returns-clause-history g c = c.make.ensures.history
 
 pub returns-clause-futures : goal.returns-clause-futures
 returns-clause-futures g c = c.make.ensures.futures
+
+pub returns-clause-ended : goal.returns-clause-ended
+returns-clause-ended g c = c.make.ensures.ended

@@ -7,4 +7,4 @@ pub returns-clause-reached : goal.returns-clause-reached
 returns-clause-reached g c =
     let number = g.O.Outcome.output_number in
     let parts = c.args.self.now.parts in
-    by_parts number g.W.SharedState c.args.self.now _ (by_no_job number parts parts.blocking true refl refl (λ h. refl)) refl refl refl refl (λ h. h) (g.met.W.SharedState.leads_itself _) refl
+    by_parts number g.W.SharedState c.args.self.now _ (by_no_job number parts parts.blocking true refl refl (λ h. refl)) refl refl refl refl (λ h. h) (g.met.W.SharedState.leads_itself _) refl refl

@@ -13,4 +13,4 @@ returns-clause-work g c = ap (λ s. without_outputs s.tasks) c.wake.ensures.task
 pub returns-clause-reached : goal.returns-clause-reached
 returns-clause-reached g c =
     by_parts g.O.Outcome.output_number g.W.SharedState c.args.self.now _ (c.wake.ensures.leads hosting_of)
-    (ap (λ s. next_number s.tasks.table) c.wake.ensures.tasks ∙ (adds_woken c.args.self.now.parts.tasks.tasks c.args.task).next) refl refl refl (λ h. h) (g.met.W.SharedState.leads_itself _) refl
+    (ap (λ s. next_number s.tasks.table) c.wake.ensures.tasks ∙ (adds_woken c.args.self.now.parts.tasks.tasks c.args.task).next) refl refl refl (λ h. h) (g.met.W.SharedState.leads_itself _) refl refl

@@ -8,4 +8,4 @@ use Rattle.mono_rt.proofs.contexts.CxJoinContext.poll_join.Goals as goal
 pub returns-clause-reached : goal.returns-clause-reached
 returns-clause-reached g c =
     by_parts g.O.Outcome.output_number g.W.SharedState c.args.self.now _ (c.poll_join.ensures.leads hosting_of)
-    (ap (λ s. next_number s.tasks.table) c.poll_join.ensures.tasks ∙ (adds_joined c.args.self.now.parts.tasks.tasks c.args.task c.args.self.now.parts.me).next) refl refl refl (λ h. h) (g.met.W.SharedState.leads_itself _) refl
+    (ap (λ s. next_number s.tasks.table) c.poll_join.ensures.tasks ∙ (adds_joined c.args.self.now.parts.tasks.tasks c.args.task c.args.self.now.parts.me).next) refl refl refl (λ h. h) (g.met.W.SharedState.leads_itself _) refl refl

@@ -13,4 +13,4 @@ returns-clause-work g c = ap (λ s. without_outputs s.tasks) c.reset_sleep.ensur
 pub returns-clause-reached : goal.returns-clause-reached
 returns-clause-reached g c =
     by_parts g.O.Outcome.output_number g.W.SharedState c.args.self.now _ (c.reset_sleep.ensures.leads hosting_of)
-    (ap (λ s. next_number s.tasks.table) c.reset_sleep.ensures.tasks ∙ (adds_woken_if_any c.args.self.now.parts.tasks.tasks _).next) refl refl refl (λ h. h) (g.met.W.SharedState.leads_itself _) refl
+    (ap (λ s. next_number s.tasks.table) c.reset_sleep.ensures.tasks ∙ (adds_woken_if_any c.args.self.now.parts.tasks.tasks _).next) refl refl refl (λ h. h) (g.met.W.SharedState.leads_itself _) refl refl

@@ -1,4 +1,4 @@
-use Rattle.std.proofs.Common.{arith, inl, inr, false, true, ◌≡◌, Option, Some, None, refl, ◌∙◌, sym}
+use Rattle.std.proofs.Common.{arith, inl, inr, false, true, ◌≡◌, Option, Some, None, refl, ap, ◌∙◌, sym}
 use Rattle.std.specs.Prelude.{⊤}
 use Rattle.std.specs.Option.{option_map}
 use Rattle.mono_rt.specs.Rounds.{IsSpawn}
@@ -15,6 +15,8 @@ use Rattle.mono_rt.proofs.ListedTaskLemmas.{does_listed_main}
 use Rattle.mono_rt.proofs.FaultLemmas.{capacity_faults, faults_after}
 use Rattle.mono_rt.specs.Outputs.{AddsNone}
 use Rattle.mono_rt.proofs.EndedTaskLemmas.{if_main}
+use Rattle.mono_rt.specs.EndedTasks.{closed_in}
+use Rattle.mono_rt.proofs.ClosedTaskLemmas.{closes_unmade, retired_main, all_unknown}
 use Rattle.mono_rt.proofs.PlaceLemmas.{placed, same_answer, same_refusal, not_refused}
 use Rattle.mono_rt.proofs.StrategyLemmas.{same_strategy}
 use Rattle.mono_rt.proofs.OutputLemmas.{adds_itself, adds_dropped, output_dropped}
@@ -243,10 +245,34 @@ pub returns-in-Err-clause-retired : goal.returns-in-Err-clause-retired
 returns-in-Err-clause-retired g c = none_made ⊤ c.in-Err.error _ _ c.in-Err.ensures.none.refused
 
 pub returns-in-Err-answer-clause-retired : goal.returns-in-Err-answer-clause-retired
-returns-in-Err-answer-clause-retired g c = if_main ⊤ c.in-Err-answer.error _ c.retire_ended.ensures.none
+returns-in-Err-answer-clause-retired g c = if_main ⊤ c.in-Err-answer.error _ (record {
+  unknown = retired_main g.O.Outcome.output_number (option_map g.O.Outcome.output_number c.end_main-output.result) c.in-Ok.main c.args.self.now c.start_main.new.self c.run-answer.new.self _ c.end_main-output.new.self c.end_main-output.new.journal
+      c.start_main.ensures.wakers c.in-Ok.ensures.made.spawn c.run-answer.ensures.went.closes c.retire_ended.ensures.retired c.end_main-output.ensures.dropped;
+  none = c.retire_ended.ensures.none;
+})
 
 pub returns-in-Some-clause-retired : goal.returns-in-Some-clause-retired
-returns-in-Some-clause-retired g c = c.retire_ended.ensures.none
+returns-in-Some-clause-retired g c = record {
+  unknown = retired_main g.O.Outcome.output_number (option_map g.O.Outcome.output_number c.end_main-output.result) c.in-Ok.main c.args.self.now c.start_main.new.self c.run-answer.new.self _ c.end_main-output.new.self c.end_main-output.new.journal
+      c.start_main.ensures.wakers c.in-Ok.ensures.made.spawn c.run-answer.ensures.went.closes c.retire_ended.ensures.retired c.end_main-output.ensures.dropped;
+  none = c.retire_ended.ensures.none;
+}
+
+-- those that ended in the loop, also if memory ran out
+pub returns-in-Err-clause-closed : goal.returns-in-Err-clause-closed
+returns-in-Err-clause-closed g c =
+    closes_unmade g.O.Outcome.output_number _ _ (ap (λ w. closed_in w.retired.entries w.ended.items) c.start_main.ensures.wakers) c.in-Err.error c.args.self.now.cx.parts c.start_main.new.self.cx.parts c.args.self.now.journal c.start_main.new.self.journal
+    c.in-Err.ensures.none.refused c.in-Err.ensures.none.stays
+
+pub returns-in-Err-answer-clause-closed : goal.returns-in-Err-answer-clause-closed
+returns-in-Err-answer-clause-closed g c =
+    retired_main g.O.Outcome.output_number (option_map g.O.Outcome.output_number c.end_main-output.result) c.in-Ok.main c.args.self.now c.start_main.new.self c.run-answer.new.self _ c.end_main-output.new.self c.end_main-output.new.journal
+    c.start_main.ensures.wakers c.in-Ok.ensures.made.spawn c.run-answer.ensures.went.closes (all_unknown c.retire_ended.new.self.retired.entries c.retire_ended.new.self.ended.items c.retire_ended.ensures.none ∙ c.retire_ended.ensures.retired) c.end_main-output.ensures.dropped
+
+pub returns-in-Some-clause-closed : goal.returns-in-Some-clause-closed
+returns-in-Some-clause-closed g c =
+    retired_main g.O.Outcome.output_number (option_map g.O.Outcome.output_number c.end_main-output.result) c.in-Ok.main c.args.self.now c.start_main.new.self c.run-answer.new.self _ c.end_main-output.new.self c.end_main-output.new.journal
+    c.start_main.ensures.wakers c.in-Ok.ensures.made.spawn c.run-answer.ensures.went.closes (all_unknown c.retire_ended.new.self.retired.entries c.retire_ended.new.self.ended.items c.retire_ended.ensures.none ∙ c.retire_ended.ensures.retired) c.end_main-output.ensures.dropped
 
 pub run-answer-requires-clause-callable : goal.run-answer-requires-clause-callable
 run-answer-requires-clause-callable g c =

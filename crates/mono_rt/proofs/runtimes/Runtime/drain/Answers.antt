@@ -37,7 +37,7 @@ pub returns-in-Some-clause-told : goal.returns-in-Some-clause-told
 returns-in-Some-clause-told g c = λ old new before after ends. telling_on {q = before} (tells_nothing refl refl c.drain.ensures.history) (c.wake_taken.ensures.told old new before after ends)
 
 pub returns-in-None-clause-idle : goal.returns-in-None-clause-idle
-returns-in-None-clause-idle g c = record { has_timers = refl; turn = refl; turns = refl; adds = adds_itself c.args.self.now.cx.parts.tasks.tasks; futures = refl; shared = refl; full = c.drain.ensures.full; held = c.drain.ensures.held }
+returns-in-None-clause-idle g c = record { has_timers = refl; turn = refl; turns = refl; adds = adds_itself c.args.self.now.cx.parts.tasks.tasks; futures = refl; shared = refl; full = c.drain.ensures.full; held = c.drain.ensures.held; closes = c.drain.ensures.closed }
 
 pub returns-in-Some-clause-idle : goal.returns-in-Some-clause-idle
 returns-in-Some-clause-idle g c = record {
@@ -49,4 +49,5 @@ returns-in-Some-clause-idle g c = record {
   shared = refl;
   full = c.wake_taken.ensures.full ∙ c.drain.ensures.full;
   held = c.wake_taken.ensures.held ∙ c.drain.ensures.held;
+  closes = c.drain.ensures.closed;
 }

@@ -32,3 +32,6 @@ returns-clause-shared g c = c.make.ensures.shared
 
 pub returns-clause-history : goal.returns-clause-history
 returns-clause-history g c = c.make.ensures.history
+
+pub returns-clause-ended : goal.returns-clause-ended
+returns-clause-ended g c = c.make.ensures.ended

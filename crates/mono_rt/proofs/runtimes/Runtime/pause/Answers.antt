@@ -89,17 +89,17 @@ returns-in-Ok-false-clause-faults g c = subst (λ b. RisesIf b (g.D.Clock.faults
 pub returns-in-Ok-drained-clause-idle : goal.returns-in-Ok-drained-clause-idle
 returns-in-Ok-drained-clause-idle g c =
     let idle = c.drain-drained.ensures.idle in
-    record { has_timers = idle.has_timers; turn = idle.turn; turns = idle.turns; adds = idle.adds; futures = idle.futures; shared = idle.shared; full = idle.full; held = idle.held }
+    record { has_timers = idle.has_timers; turn = idle.turn; turns = idle.turns; adds = idle.adds; futures = idle.futures; shared = idle.shared; full = idle.full; held = idle.held; closes = idle.closes }
 
 pub returns-in-Err-clause-idle : goal.returns-in-Err-clause-idle
 returns-in-Err-clause-idle g c =
     let idle = c.drain-drained.ensures.idle in
-    record { has_timers = idle.has_timers; turn = idle.turn; turns = idle.turns; adds = idle.adds; futures = idle.futures; shared = idle.shared; full = idle.full; held = idle.held }
+    record { has_timers = idle.has_timers; turn = idle.turn; turns = idle.turns; adds = idle.adds; futures = idle.futures; shared = idle.shared; full = idle.full; held = idle.held; closes = idle.closes }
 
 pub returns-in-Err-drained-clause-idle : goal.returns-in-Err-drained-clause-idle
 returns-in-Err-drained-clause-idle g c =
     let idle = c.drain-drained.ensures.idle in
-    record { has_timers = idle.has_timers; turn = idle.turn; turns = idle.turns; adds = idle.adds; futures = idle.futures; shared = idle.shared; full = idle.full; held = idle.held }
+    record { has_timers = idle.has_timers; turn = idle.turn; turns = idle.turns; adds = idle.adds; futures = idle.futures; shared = idle.shared; full = idle.full; held = idle.held; closes = idle.closes }
 
 pub returns-in-Err-wait-clause-idle : goal.returns-in-Err-wait-clause-idle
 returns-in-Err-wait-clause-idle g c = c.wait.ensures.idle

@@ -1,4 +1,6 @@
 use Rattle.std.proofs.Common.{◌≡◌, false, true, refl}
+use Rattle.mono_rt.proofs.ClosedTaskLemmas.{closes_on, closes_stays}
+use Rattle.mono_rt.proofs.JournalLemmas.{does_stay}
 use Rattle.mono_rt.proofs.OutputLemmas.{adds_itself}
 use Rattle.mono_rt.proofs.PossibleAnswerLemmas.{no_more_on, no_more_by}
 use Rattle.mono_rt.proofs.PollableLemmas.{turn_same}
@@ -11,7 +13,12 @@ pub returns-clause-ends : goal.returns-clause-ends
 returns-clause-ends g c = rw c.task.ensures at c.run-answer.ensures.ends
 
 pub returns-clause-retired : goal.returns-clause-retired
-returns-clause-retired g c = c.retire_ended.ensures.none
+returns-clause-retired g c = record {
+  unknown = closes_on g.O.Outcome.output_number _ _ _ c.args.self.now.cx.parts c.run-answer.new.self.cx.parts c.run-answer.new.self.cx.parts c.args.self.now.journal c.run-answer.new.self.journal c.run-answer.new.self.journal c.run-answer.ensures.went.closes
+      (closes_stays g.O.Outcome.output_number _ _ c.retire_ended.ensures.retired c.run-answer.new.self.cx.parts c.run-answer.new.self.cx.parts c.run-answer.new.self.journal c.run-answer.new.self.journal
+      (does_stay g.O.Outcome.output_number c.run-answer.new.self.cx.parts c.run-answer.new.self.cx.parts c.run-answer.new.self.journal c.run-answer.new.self.journal refl refl refl refl refl));
+  none = c.retire_ended.ensures.none;
+}
 
 pub returns-clause-strategy : goal.returns-clause-strategy
 returns-clause-strategy g c = same_strategy g.O.Outcome.output_number _ _ _ _ _ c.run-answer.ensures.ends

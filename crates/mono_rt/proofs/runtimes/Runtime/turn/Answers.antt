@@ -17,6 +17,7 @@ use Rattle.mono_rt.proofs.PossibleAnswerLemmas.{no_more_same, no_more_around}
 use Rattle.mono_rt.proofs.PollableLemmas.{turn_same}
 use Rattle.mono_rt.proofs.ProgressLemmas.{went_turn}
 use Rattle.mono_task.specs.Schedule.{one_more_turn}
+use Rattle.mono_rt.proofs.ClosedTaskLemmas.{closes_stays, closes_turn}
 use Rattle.mono_rt.proofs.TurnCountLemmas.{counts_stays, counts_turn, one_turn_more}
 use Rattle.mono_rt.proofs.runtimes.Runtime.turn.Goals as goal
 
@@ -58,6 +59,7 @@ returns-in_default-clause-went g c =
       full = fills_not g.O.Outcome.output_number g.W.SharedState future old.cx old.journal c.open_turn.new.journal c.open_turn.ensures.full;
       held = c.open_turn.ensures.held;
       placed = tt;
+      closes = closes_stays g.O.Outcome.output_number _ _ refl old.cx.parts opened.parts old.journal c.open_turn.new.journal c.in_default.ensures.unread;
     }
 
 pub returns-clause-went : goal.returns-clause-went
@@ -93,7 +95,10 @@ returns-clause-went g c =
     c.open_turn.ensures.faults
     (telling_on c.open_turn.ensures.told (tells_kept _ _ _ refl c.keep_turn.ensures.history))
     (fills_turn number sharing future old.cx opened done old.journal first last _ _ _ _ c.open_turn.ensures.goes c.open_turn.ensures.full (λ unfull. c.in-Some.ensures.acts ∙ ap no_acts (sym c.open_turn.ensures.full ∙ unfull)) c.turn-task.ensures.turn is c.keep_turn.ensures.full)
-    (c.keep_turn.ensures.held ∙ c.open_turn.ensures.held))
+    (c.keep_turn.ensures.held ∙ c.open_turn.ensures.held)
+    (closes_turn number _ _ old.cx.parts opened.parts closed.parts old.journal first last _ _ _ _ _ c.turn-task.ensures.closed c.in-Some.ensures.reading
+    (does_turn number opened.parts done.parts closed.parts first last _ _ _ is c.keep_turn.ensures.history
+    (λ m st. same_machine number hosting_of done.parts closed.parts m c.keep_turn.ensures.tasks c.keep_turn.ensures.timers c.keep_turn.ensures.has_timers c.keep_turn.ensures.blocking st) c.keep_turn.ensures.timers)))
 
 pub turn-task-requires-clause-callable : goal.turn-task-requires-clause-callable
 turn-task-requires-clause-callable g c =

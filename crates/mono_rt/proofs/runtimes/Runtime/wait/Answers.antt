@@ -99,19 +99,19 @@ pub returns-in-Ok-clock_step-clause-faults : goal.returns-in-Ok-clock_step-claus
 returns-in-Ok-clock_step-clause-faults g c = rises_before c.in-Ok.failed _ _ _ c.in-Ok.ensures.faults (c.clock_step.ensures.faults ∙ (ap g.D.Clock.faults c.drain.ensures.driver))
 
 pub returns-in_default-clause-idle : goal.returns-in_default-clause-idle
-returns-in_default-clause-idle g c = record { has_timers = refl; turn = refl; turns = refl; adds = adds_itself _; futures = refl; shared = refl; full = c.park.ensures.full; held = c.park.ensures.held }
+returns-in_default-clause-idle g c = record { has_timers = refl; turn = refl; turns = refl; adds = adds_itself _; futures = refl; shared = refl; full = c.park.ensures.full; held = c.park.ensures.held; closes = refl }
 
 pub returns-in_default-drain-clause-idle : goal.returns-in_default-drain-clause-idle
 returns-in_default-drain-clause-idle g c =
-    idles_on c.args.self.now _ c.drain.new.self (record { has_timers = refl; turn = refl; turns = refl; adds = adds_itself _; futures = refl; shared = refl; full = c.park.ensures.full; held = c.park.ensures.held }) c.drain.ensures.idle
+    idles_on c.args.self.now _ c.drain.new.self (record { has_timers = refl; turn = refl; turns = refl; adds = adds_itself _; futures = refl; shared = refl; full = c.park.ensures.full; held = c.park.ensures.held; closes = refl }) c.drain.ensures.idle
 
 pub returns-then-not-self-clause-idle : goal.returns-then-not-self-clause-idle
 returns-then-not-self-clause-idle g c =
-    idles_on c.args.self.now _ c.drain.new.self (record { has_timers = refl; turn = refl; turns = refl; adds = adds_itself _; futures = refl; shared = refl; full = c.park.ensures.full; held = c.park.ensures.held }) c.drain.ensures.idle
+    idles_on c.args.self.now _ c.drain.new.self (record { has_timers = refl; turn = refl; turns = refl; adds = adds_itself _; futures = refl; shared = refl; full = c.park.ensures.full; held = c.park.ensures.held; closes = refl }) c.drain.ensures.idle
 
 pub returns-in-Err-clause-idle : goal.returns-in-Err-clause-idle
 returns-in-Err-clause-idle g c =
-    idles_on c.args.self.now c.drain.new.self _ (idles_on c.args.self.now _ c.drain.new.self (record { has_timers = refl; turn = refl; turns = refl; adds = adds_itself _; futures = refl; shared = refl; full = c.park.ensures.full; held = c.park.ensures.held }) c.drain.ensures.idle) (record {
+    idles_on c.args.self.now c.drain.new.self _ (idles_on c.args.self.now _ c.drain.new.self (record { has_timers = refl; turn = refl; turns = refl; adds = adds_itself _; futures = refl; shared = refl; full = c.park.ensures.full; held = c.park.ensures.held; closes = refl }) c.drain.ensures.idle) (record {
       has_timers = c.clock_step.ensures.has_timers;
       turn = c.clock_step.ensures.turn;
       turns = c.clock_step.ensures.turns;
@@ -120,11 +120,12 @@ returns-in-Err-clause-idle g c =
       shared = refl;
       full = c.clock_step.ensures.full;
       held = c.clock_step.ensures.held;
+      closes = refl;
     })
 
 pub returns-in-Ok-clock_step-clause-idle : goal.returns-in-Ok-clock_step-clause-idle
 returns-in-Ok-clock_step-clause-idle g c =
-    idles_on c.args.self.now c.drain.new.self _ (idles_on c.args.self.now _ c.drain.new.self (record { has_timers = refl; turn = refl; turns = refl; adds = adds_itself _; futures = refl; shared = refl; full = c.park.ensures.full; held = c.park.ensures.held }) c.drain.ensures.idle) (record {
+    idles_on c.args.self.now c.drain.new.self _ (idles_on c.args.self.now _ c.drain.new.self (record { has_timers = refl; turn = refl; turns = refl; adds = adds_itself _; futures = refl; shared = refl; full = c.park.ensures.full; held = c.park.ensures.held; closes = refl }) c.drain.ensures.idle) (record {
       has_timers = c.clock_step.ensures.has_timers;
       turn = c.clock_step.ensures.turn;
       turns = c.clock_step.ensures.turns;
@@ -133,4 +134,5 @@ returns-in-Ok-clock_step-clause-idle g c =
       shared = refl;
       full = c.clock_step.ensures.full;
       held = c.clock_step.ensures.held;
+      closes = refl;
     })

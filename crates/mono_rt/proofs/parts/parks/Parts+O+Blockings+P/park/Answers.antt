@@ -1,4 +1,5 @@
-use Rattle.std.proofs.Common.{ℕ, Some, None, Option, refl, [], ◌∷◌, sym, subst}
+use Rattle.mono_model.specs.Ticks.{max_nanos}
+use Rattle.std.proofs.Common.{◌≤◌, ℕ, Some, None, Option, refl, [], ◌∷◌, sym, subst}
 use Rattle.std.specs.Prelude.{IfSome}
 use Rattle.mono_time.specs.Instants.{nanos_of}
 use Rattle.mono_time.specs.Timers.{registered_of}
@@ -30,7 +31,7 @@ returns-in-Ok-clause-parked g c =
     (does_stay number parts parts c.args.journal.now opened refl refl refl refl c.reserve.ensures.history)
     (does_past number (IsPark parts.has_timers) parts opened last (Now n ∷ Park wait ∷ []) (two_pushed opened c.push.new.self last (Now n) (Park wait) c.push.ensures.history c.push-in-Ok.ensures.history)
     (λ m. refl) (λ m st. parked_registers n wait m (registered_of parts.timers) (by_reading m st wait c.wait_from-wait.ensures.next))
-    (λ m st rest. (n, (wait, (subst (λ x. IsWait parts.has_timers m x wait) (sym c.as_nanos.ensures) (c.wait_from-wait.ensures.wait m st), (refl, refl))))))
+    (λ m st rest. (n, (wait, (subst (λ x. IsWait parts.has_timers m x wait) (sym c.as_nanos.ensures) (c.wait_from-wait.ensures.wait m st), (refl, (refl, subst (λ x. x ≤ max_nanos) (sym c.as_nanos.ensures) c.now-now.result.in_range)))))))
   where
     by_reading : (m : Machine) → Matches g.O.Outcome.output_number hosting_of c.args.self.now m → (wait : Option ℕ)
         → IfSome wait (λ v. (x : Machine) → Matches g.O.Outcome.output_number hosting_of c.args.self.now x → WaitsForNext x (registered_of c.args.self.now.timers) (Some (nanos_of c.now-now.result)) v)

@@ -1,4 +1,5 @@
-use Rattle.std.proofs.Common.{refl, [], ◌∷◌}
+use Rattle.std.proofs.Common.{◌≤◌, refl, sym, subst, [], ◌∷◌}
+use Rattle.mono_model.specs.Ticks.{max_nanos}
 use Rattle.mono_rt.specs.Journals.{IsReading}
 use Rattle.mono_rt.specs.declared.parts.journals.Entry.TheVariants.{Now}
 use Rattle.mono_rt.proofs.JournalLemmas.{goes_of, goes_nowhere, does_stay, does_past}
@@ -18,7 +19,8 @@ returns-in-Ok-begin-clause-reading g c =
     let n = c.as_nanos.result in
     stay_on number IsReading parts opened opened c.args.journal.now c.reserve.new.self c.push.new.self
     (does_stay number parts opened c.args.journal.now c.reserve.new.self refl refl refl refl c.reserve.ensures.history)
-    (does_past number IsReading opened c.reserve.new.self c.push.new.self (Now n ∷ []) c.push.ensures.history (λ m. refl) (λ m st. (refl, λ s. refl)) (λ m st rest. (n, (refl, refl))))
+    (does_past number IsReading opened c.reserve.new.self c.push.new.self (Now n ∷ []) c.push.ensures.history (λ m. refl) (λ m st. (refl, λ s. refl))
+    (λ m st rest. (n, (refl, (refl, subst (λ x. x ≤ max_nanos) (sym c.as_nanos.ensures) c.now-now.result.in_range)))))
 
 pub returns-in-Ok-begin-clause-goes : goal.returns-in-Ok-begin-clause-goes
 returns-in-Ok-begin-clause-goes g c = goes_of g.O.Outcome.output_number IsReading c.args.self.now (record c.args.self.now { acts = c.begin.new.self }) c.args.journal.now c.push.new.self (returns-in-Ok-begin-clause-reading g c)
