@@ -25,6 +25,13 @@ behind-twice (x ∷ xs) key h = elim (eqb_tells key x) [
   | inr e ↦ rw e.0 (elim h [ inl t ↦ absurd (e.1 (sym t.0)) | inr t ↦ inr (behind-twice xs key t) ])
 ]
 
+-- a key does not stand before itself
+pub never-twice : (elapsed key list : ℕ) (entries : List Entry) (links new : Lists) → Held elapsed entries links → StandsIn elapsed list (timed_in entries key) → list < length links.lists →
+    new ≡ with_list links list (without key (list_at links list)) → (IsIn key (list_at new list) → ⊥) → (line : ℕ) → StandsBehind (list_at links line) key key → ⊥
+never-twice elapsed key list entries links new h stands low is gone line b =
+    let line_is : line ≡ list = stands-one elapsed line list (timed_in entries key) (h.within key line (behind-upper (list_at links line) key key b)) stands in
+    gone (subst (λ zs. IsIn key zs) (sym (ap (λ w. list_at w list) is ∙ list-same links list (without key (list_at links list)) low)) (behind-twice (list_at links list) key (subst (λ l. StandsBehind (list_at links l) key key) line_is b)))
+
 -- What `IsFirstFar` says of the entries, with the tick that is read from them.
 pub record FirstAt (elapsed : ℕ) (entries : List Entry) (now key tick : ℕ) : Type 0 where
   pub is : timed_in entries key ≡ at_tick tick

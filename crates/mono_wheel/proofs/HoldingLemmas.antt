@@ -74,6 +74,34 @@ held-inserted elapsed entries links new key list tick h known out ahead place is
     (λ l s. let e : l ≡ list = subst (StandsIn elapsed l) new s ∙ here ∙ sym place in subst (λ zs. IsIn key zs) (sym (ap (list_at (with_list links list (key ∷ list_at links list))) e ∙ list-same links list _ low)) (inl refl))
     (subst (Fits elapsed) (sym new) (inr (ahead, omega arith))))
 
+-- The same, if the key may be pending.
+pub held-put : (elapsed : ℕ) (entries : List Entry) (links new : Lists) (key list tick : ℕ) → Held elapsed entries links → is_node links key ≡ true → timed_in entries key ≡ None →
+    elapsed ≤ tick → 0 < tick → list ≡ place_in elapsed tick → new ≡ with_list links list (key ∷ list_at links list) →
+    Held elapsed (set entries key record { tick = tick; registered = tick }) new
+held-put elapsed entries links new key list tick h known out ahead some place is =
+    let b = place_in-below elapsed tick in
+    let low : list < length links.lists = let n = h.lists in omega (arith, place, b, n) in
+    let new : timed_of record { tick = tick; registered = tick } ≡ Some record { tick = tick; registered = tick } = some_of record { tick = tick; registered = tick } (λ z. omega (arith, z, some)) in
+    let no : (k l : ℕ) → IsIn k (list_at links l) → k ≢ key = λ k l i e. subst (StandsIn elapsed l) (ap (timed_in entries) e ∙ out) (h.within k l i) in
+    subst (Held elapsed _) (sym is)
+    (held-changed elapsed entries links _ key _ h (h.room key known) (length-set links.lists list (key ∷ list_at links list)) refl
+    (λ k l i. elim (eqb_tells l list) [
+      | inl t ↦ elim (subst (λ zs. IsIn k zs) (ap (list_at (with_list links list (key ∷ list_at links list))) t.1 ∙ list-same links list _ low) i) [
+        | inl e ↦ inl (e, subst (StandsIn elapsed l) (sym new) (t.1 ∙ place))
+        | inr j ↦ inr (no k list j, subst (λ z. IsIn k (list_at links z)) (sym t.1) j)
+      ]
+      | inr t ↦ let j = subst (λ zs. IsIn k zs) (list-other links list l _ t.1) i in inr (no k l j, j)
+    ])
+    (λ k l ne i. elim (eqb_tells l list) [
+      | inl t ↦ subst (λ zs. IsIn k zs) (sym (ap (list_at (with_list links list (key ∷ list_at links list))) t.1 ∙ list-same links list _ low)) (inr (subst (λ z. IsIn k (list_at links z)) t.1 i))
+      | inr t ↦ subst (λ zs. IsIn k zs) (sym (list-other links list l _ t.1)) i
+    ])
+    (λ l s. let e : l ≡ list = subst (StandsIn elapsed l) new s ∙ sym place in subst (λ zs. IsIn key zs) (sym (ap (list_at (with_list links list (key ∷ list_at links list))) e ∙ list-same links list _ low)) (inl refl))
+    (subst (Fits elapsed) (sym new) (elim (eqb_tells tick elapsed) [
+      | inl e ↦ inl (e.1, e.1)
+      | inr e ↦ inr (let n = e.1 in omega (arith, ahead, n), omega arith)
+    ])))
+
 pub held-removed : (elapsed : ℕ) (entries : List Entry) (links new : Lists) (key list : ℕ) (x : Entry) → Held elapsed entries links → key < length entries →
     list < length links.lists → StandsIn elapsed list (timed_in entries key) → new ≡ with_list links list (without key (list_at links list)) → (IsIn key (list_at new list) → ⊥) → x.tick ≡ 0 →
     ((l : ℕ) → StandsIn elapsed l (timed_in entries key) → l ≡ list) →

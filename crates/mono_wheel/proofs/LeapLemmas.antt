@@ -34,7 +34,7 @@ ahead-of a b h = elim (cases_lt a b) [
 pub far-level : (a b : ℕ) → above top_level a < above top_level b → far_digit top_level a b ≡ top_level
 far-level a b h = rw (eqb-no (above top_level a) (above top_level b) (λ e. omega (arith, h, e))) refl
 
-far-start : (a b : ℕ) → above top_level a < above top_level b → start top_level a b ≡ next_turn (above top_level a) (above top_level b) * 64 ^ top_level
+pub far-start : (a b : ℕ) → above top_level a < above top_level b → start top_level a b ≡ next_turn (above top_level a) (above top_level b) * 64 ^ top_level
 far-start a b h = ap (λ k. next_turn (above k a) (above k b) * 64 ^ k) (far-level a b h)
 
 -- the clock goes on before the next start of the key
@@ -143,7 +143,7 @@ below-more entries near key least less place x is low here all before l ne = eli
   | inr e ↦ below-less least less (timed_in entries (get_or near before 0)) low (all before (let n = e.1 in omega (arith, l, n)) ne)
 ]
 
-pub due-from : (limit least : ℕ) (near : List ℕ) (key : ℕ) (o : Option Timed) → least ≤ limit → ((place : ℕ) → place < 64 → get_or near place 0 ≡ key → IsBelow least o) → IsKnown limit near key o → IsDueFrom least o
+pub due-from : (limit least : ℕ) (near : List ℕ) (key : ℕ) (o : Option Timed) → least ≤ limit → ((place : ℕ) → place < 512 → get_or near place 0 ≡ key → IsBelow least o) → IsKnown limit near key o → IsDueFrom least o
 due-from limit least near key None l h k = tt
 due-from limit least near key (Some timed) l h (same, inl far) = (same, omega (arith, l, far))
 due-from limit least near key (Some timed) l h (same, inr (place, low, is)) = (same, h place low is)
@@ -159,7 +159,7 @@ IsNoted limit near count key (Some timed) = (timed.registered ≡ timed.tick) ×
 
 -- all keys before this one are
 pub record Noted (limit : ℕ) (near : List ℕ) (count : ℕ) (entries : List Entry) (key : ℕ) : Type 0 where
-  pub room : count ≤ 64
+  pub room : count ≤ 512
   pub before : (k : ℕ) → k < key → IsNoted limit near count k (timed_in entries k)
 
 noted-less : (limit less : ℕ) (near : List ℕ) (count key : ℕ) (o : Option Timed) → less ≤ limit → IsNoted limit near count key o → IsNoted less near count key o
@@ -173,7 +173,7 @@ noted-more limit near count new key (Some timed) (same, inl far) = (same, inl fa
 noted-more limit near count new key (Some timed) (same, inr (place, low, is)) =
     (same, inr (place, omega (arith, low), get_or-set_other near count place new 0 (λ e. omega (arith, low, e)) ∙ is))
 
-up-to : (key : ℕ) (P : ℕ → Type 0) → ((k : ℕ) → k < key → P k) → P key → (k : ℕ) → k < key + 1 → P k
+pub up-to : (key : ℕ) (P : ℕ → Type 0) → ((k : ℕ) → k < key → P k) → P key → (k : ℕ) → k < key + 1 → P k
 up-to key P before here k low = elim (cases_lt k key) [
   | inl b ↦ before k b
   | inr b ↦ subst P (let e : key ≡ k = omega (arith, low, b) in e) here
@@ -196,7 +196,7 @@ noted-past limit near count key entries x n is same h = record {
   before = up-to key (λ k. IsNoted limit near count k (timed_in entries k)) n.before (noted-at limit near count key entries x is same (λ some. inl (h some)));
 }
 
-pub noted-here : (limit : ℕ) (near : List ℕ) (count key : ℕ) (entries : List Entry) (x : Entry) → Noted limit near count entries key → x ≡ get_or entries key no_entry → x.registered ≡ x.tick → count < 64 → count < length near →
+pub noted-here : (limit : ℕ) (near : List ℕ) (count key : ℕ) (entries : List Entry) (x : Entry) → Noted limit near count entries key → x ≡ get_or entries key no_entry → x.registered ≡ x.tick → count < 512 → count < length near →
     Noted limit (set near count key) (count + 1) entries (key + 1)
 noted-here limit near count key entries x n is same room low = record {
   room = omega (arith, room);
@@ -212,7 +212,7 @@ noted-falls limit near count key entries x n is same less = record {
       (noted-at x.tick near count key entries x is same (λ some. inl (omega arith)));
 }
 
-noted-known : (limit : ℕ) (near : List ℕ) (count key : ℕ) (o : Option Timed) → count ≤ 64 → IsNoted limit near count key o → IsKnown limit near key o
+noted-known : (limit : ℕ) (near : List ℕ) (count key : ℕ) (o : Option Timed) → count ≤ 512 → IsNoted limit near count key o → IsKnown limit near key o
 noted-known limit near count key None room n = tt
 noted-known limit near count key (Some timed) room (same, inl far) = (same, inl far)
 noted-known limit near count key (Some timed) room (same, inr (place, low, is)) = (same, inr (place, omega (arith, room, low), is))
@@ -229,6 +229,26 @@ known-out limit near entries key x low out h some k = elim (eqb_tells k key) [
   | inl e ↦ subst (IsKnown limit near k) (sym (ap (timed_in (set entries key x)) e.1 ∙ timed-here entries key x low ∙ none_of x out)) tt
   | inr e ↦ subst (IsKnown limit near k) (sym (timed-other entries key k x e.1)) (h some k)
 ]
+
+-- a key that goes in at its tick is due at the limit or later, or one of the near
+pub known-put : (limit less : ℕ) (near : List ℕ) (entries : List Entry) (key : ℕ) (x : Entry) → key < length entries → x.registered ≡ x.tick → less ≤ limit
+    → ((less ≤ x.tick) ⊎ ((place : ℕ) × (place < 512) × (get_or near place 0 ≡ key))) → Known limit near entries → Known less near (set entries key x)
+known-put limit less near entries key x low same fewer here h some k = elim (eqb_tells k key) [
+  | inl e ↦ subst (IsKnown less near k) (sym (ap (timed_in (set entries key x)) e.1 ∙ timed-here entries key x low)) (put k (elim here [ inl l ↦ inl l | inr p ↦ inr (p.0, p.1, p.2 ∙ sym e.1) ]))
+  | inr e ↦ subst (IsKnown less near k) (sym (timed-other entries key k x e.1)) (known-less k (timed_in entries k) (h (omega (arith, some, fewer)) k))
+]
+  where
+    put : (k : ℕ) → (less ≤ x.tick) ⊎ ((place : ℕ) × (place < 512) × (get_or near place 0 ≡ k)) → IsKnown less near k (timed_of x)
+    put k there = elim (eqb_tells x.tick 0) [ inl t ↦ rw t.0 tt | inr f ↦ rw f.0 (same, there) ]
+
+    known-less : (k : ℕ) (o : Option Timed) → IsKnown limit near k o → IsKnown less near k o
+    known-less k None n = tt
+    known-less k (Some timed) (s, inl far) = (s, inl (omega (arith, far, fewer)))
+    known-less k (Some timed) (s, inr there) = (s, inr there)
+
+-- the ticks stay
+pub known-same : (limit : ℕ) (near : List ℕ) (entries entries2 : List Entry) → ((key : ℕ) → timed_in entries2 key ≡ timed_in entries key) → Known limit near entries → Known limit near entries2
+known-same limit near entries entries2 same h some k = subst (IsKnown limit near k) (sym (same k)) (h some k)
 
 known-moved : (elapsed to limit : ℕ) (near : List ℕ) (key : ℕ) (o : Option Timed) → IsKnown limit near key o → IsKnown limit near key (timed_after elapsed to o)
 known-moved elapsed to limit near key None h = tt

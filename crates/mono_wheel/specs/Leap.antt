@@ -19,7 +19,7 @@ IsDueFrom least (Some timed) = (timed.registered ≡ timed.tick) × (least ≤ t
 -- A key that is in is registered at its true tick, which is at least `limit` unless the key is one of these.
 abbrev pub IsKnown : ℕ → List ℕ → ℕ → Option Timed → Type 0
 IsKnown limit near key None = Unit {0}
-IsKnown limit near key (Some timed) = (timed.registered ≡ timed.tick) × ((limit ≤ timed.tick) ⊎ ((place : ℕ) × (place < 64) × (slice_index_or near place 0 ≡ key)))
+IsKnown limit near key (Some timed) = (timed.registered ≡ timed.tick) × ((limit ≤ timed.tick) ⊎ ((place : ℕ) × (place < 512) × (slice_index_or near place 0 ≡ key)))
 
 -- This holds for each key, unless the limit is 0.
 abbrev pub Known : ℕ → List ℕ → List Entry → Type 0

@@ -1,5 +1,7 @@
 //! A leap of the clock over slots of the top level in which no key is due.
-ghost use Rattle.std.specs.Prelude.{◌≡◌, ◌≢◌, ◌<◌, ◌≤◌, ℕ};
+ghost use Rattle.std.specs.Prelude.{◌≡◌, ◌≢◌, ◌<◌, ◌≤◌, ◌⊎◌, ℕ, true, false, slice_index_or};
+ghost use Rattle.mono_wheel.specs.Lists.{entry_at};
+ghost use Rattle.mono_wheel.specs.Hops.{HasNoTie, HasNoTies};
 ghost use Rattle.mono_wheel.specs.Start.{above, top_level};
 ghost use Rattle.mono_wheel.specs.Holdings.{timed_in};
 ghost use Rattle.mono_wheel.specs.Leap.{IsDueFrom, Known};
@@ -8,16 +10,13 @@ use crate::level::LEVELS;
 use crate::slot_links::SlotLinks;
 
 /// How many of the keys that are due soonest are recorded at once.
-pub const NEAR: usize = 64;
+pub const NEAR: usize = 512;
 
 // How many ticks a slot of the top level covers.
 const SPAN: u64 = 1 << ((LEVELS - 1) * 6);
 
 // The first list of the top level.
 const FIRST: usize = (LEVELS - 1) * 64;
-
-/// How many ticks a turn of the top level covers.
-pub const REACH: u64 = 1 << (LEVELS * 6);
 
 /// Returns whether some key is ahead and all keys ahead are at the top level.
 pub fn is_high(elapsed: u64, links: &SlotLinks) -> bool {
@@ -27,31 +26,35 @@ pub fn is_high(elapsed: u64, links: &SlotLinks) -> bool {
     }
 }
 
-// Returns the place of the greatest of these ticks.
-fn greatest(ticks: &[u64; NEAR]) -> usize
-    ensures { result < 64 }
-{
-    let mut found = 0;
-    for place in 0..NEAR {
-        if ticks[place] > ticks[found] {
-            found = place;
+// Puts a tick in place of the greatest one, which is the first. Each tick is at least as great as the two at twice its
+// place and 1 or 2 more.
+fn sink(ticks: &mut [u64; NEAR], tick: u64) {
+    let mut at = 0;
+    for _ in 0..NEAR {
+        let left = 2 * at + 1;
+        let mut child = left;
+        if left + 1 < NEAR && ticks[left + 1] > ticks[left] {
+            child = left + 1;
         }
+        if child >= NEAR || ticks[child] <= tick {
+            break;
+        }
+        ticks[at] = ticks[child];
+        at = child;
     }
-    found
+    ticks[at] = tick;
 }
 
 /// Returns a tick before which at most `NEAR` keys are due, or the greatest number if there are fewer keys.
 pub fn limit_for(links: &SlotLinks) -> u64 {
     let mut ticks = [u64::MAX; NEAR];
-    let mut last = 0;
     for key in 0..links.end() {
         let tick = links.entry(key).tick;
-        if tick != 0 && tick < ticks[last] {
-            ticks[last] = tick;
-            last = greatest(&ticks);
+        if tick != 0 && tick < ticks[0] {
+            sink(&mut ticks, tick);
         }
     }
-    ticks[last]
+    ticks[0]
 }
 
 /// Records the keys that are due before `limit`, as far as there is place, and returns the limit that holds for all
@@ -122,6 +125,83 @@ pub fn least_but(key: usize, limit: u64, near: &[usize; NEAR], links: &SlotLinks
         }
     }
     least
+}
+
+/// Returns whether a tick is in the slot of the top level in which `least` lies, and the limit is in a later one.
+pub fn is_within(goal: u64, least: u64, limit: u64) -> bool
+    ensures { result ≡ true → (above top_level least ≤ above top_level goal) × (above top_level least < above top_level limit) }
+{
+    high_slot(least) <= high_slot(goal) && high_slot(least) < high_slot(limit)
+}
+
+/// Returns the lesser of two ticks.
+pub fn lesser(first: u64, second: u64) -> u64
+    ensures first { result ≤ first }
+    ensures second { result ≤ second }
+{
+    if first < second { first } else { second }
+}
+
+/// Returns the limit that holds once a key goes in at this tick. It may fall unless the key is at this place of `near`.
+pub fn limit_with(limit: u64, near: &[usize; NEAR], place: usize, key: usize, tick: u64) -> u64
+    requires { place < 512 }
+    ensures less { result ≤ limit }
+    ensures known { (result ≤ tick) ⊎ (slice_index_or near.now place 0 ≡ key) }
+{
+    if near[place] == key {
+        return limit;
+    }
+    lesser(limit, tick)
+}
+
+// Returns whether these two places have different keys, the first of which is due at this tick.
+fn is_other(other: usize, place: usize, tick: u64, near: &[usize; NEAR], links: &SlotLinks) -> bool
+    requires other { other < 512 }
+    requires place { place < 512 }
+    ensures { result ≡ false → slice_index_or near.now other 0 ≢ slice_index_or near.now place 0 → (entry_at links.now.table (slice_index_or near.now other 0)).tick ≢ tick }
+{
+    if near[other] == near[place] {
+        return false;
+    }
+    links.entry(near[other]).tick == tick
+}
+
+// Returns whether an earlier one of these keys is another key that is due at this tick.
+fn is_tied(place: usize, tick: u64, near: &[usize; NEAR], links: &SlotLinks) -> bool
+    requires { place < 512 }
+    ensures { result ≡ false → (other : ℕ) → other < place → slice_index_or near.now other 0 ≢ slice_index_or near.now place 0 → (entry_at links.now.table (slice_index_or near.now other 0)).tick ≢ tick }
+{
+    for other in 0..place {
+        if is_other(other, place, tick, near, links) {
+            return true;
+        }
+    }
+    false
+}
+
+// Returns whether the key at this place is due in the slot of the top level in which `goal` lies, at one tick with an
+// earlier one.
+fn is_tie(goal: u64, place: usize, near: &[usize; NEAR], links: &SlotLinks) -> bool
+    requires { place < 512 }
+    ensures { result ≡ false → HasNoTie goal near.now links.now.table place }
+{
+    let tick = links.entry(near[place]).tick;
+    if tick == 0 || high_slot(tick) != high_slot(goal) {
+        return false;
+    }
+    is_tied(place, tick, near, links)
+}
+
+/// Returns whether two of these keys are due at one tick of the top level's slot in which `goal` lies.
+pub fn has_ties(goal: u64, near: &[usize; NEAR], links: &SlotLinks) -> bool
+    ensures { result ≡ false → HasNoTies goal near.now links.now.table 512 }
+{
+    for place in 0..NEAR {
+        if is_tie(goal, place, near, links) {
+            return true;
+        }
+    }
+    false
 }
 
 /// Returns the last tick before the slot of the top level in which `least` lies, or `now` if that is earlier.

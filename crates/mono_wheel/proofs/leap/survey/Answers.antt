@@ -8,7 +8,7 @@ loop-key-preserved c =
     let same : c.entry-entry.result.registered ≡ c.entry-entry.result.tick = c.if-entry.false in
     elim c.if-entry-ne0.branch [
       | then-entry-ne0+then-entry-limit+then-count-lt-NEAR w ↦
-          let low : c.loop-key.count < 64 = w.if-count-lt-NEAR.true in
+          let low : c.loop-key.count < 512 = w.if-count-lt-NEAR.true in
           let wrote : length c.if-entry-ne0.near ≡ length c.loop-key.near = ap length w.near-is ∙ length-set c.loop-key.near c.loop-key.count c.loop-key.key in
           let long = c.if-entry-ne0.array_long in
           noted-is c.loop-key.limit c.if-entry-ne0.limit (set c.loop-key.near c.loop-key.count c.loop-key.key) c.if-entry-ne0.near (c.loop-key.count + 1) c.if-entry-ne0.count c.args.links.now.table.entries (c.loop-key.key + 1) w.limit-is w.near-is w.count-is

@@ -6,6 +6,7 @@ use Rattle.mono_wheel.specs.Model.{timed_at}
 use Rattle.mono_wheel.specs.Credit.{credit, credit_of}
 use Rattle.mono_wheel.proofs.HoldingLemmas.{held-grown}
 use Rattle.mono_wheel.proofs.RingLemmas.{false-true}
+use Rattle.mono_wheel.proofs.LeapLemmas.{known-same}
 use Rattle.mono_wheel.proofs.TickChangeLemmas.{timed-freed, order-kept}
 use Rattle.mono_wheel.proofs.wheel.Wheel.free_entry.Goals as goal
 
@@ -22,7 +23,9 @@ invariant_of-self c = (
             let size : length c.free_node.new.self.table.entries ≡ length c.self.inside.links.table.entries = ap length c.free_node.ensures.freed.entries ∙ length-set c.self.inside.links.table.entries c.args.key no_entry in
             omega (arith, old, size)
       ]),
-  (λ some. absurd (omega (arith, some))),
+  let out = subst (λ w. timed_at w c.args.key ≡ None) (sym c.self.view_is) c.requires.out in
+      let same : map timed_of c.free_node.new.self.table.entries ≡ map timed_of c.self.inside.links.table.entries = ap (map timed_of) c.free_node.ensures.freed.entries ∙ timed-freed c.self.inside.links.table.entries c.args.key out in
+      known-same c.self.inside.limit c.self.inside.near c.self.inside.links.table.entries c.free_node.new.self.table.entries (λ k. ap (λ ts. get_or ts k None) same) c.self.invariant.1,
 )
 
 pub returns-clause-entries : goal.returns-clause-entries

@@ -1,18 +1,20 @@
-use Rattle.std.proofs.Common.{arith}
-use Rattle.mono_wheel.specs.Model.{timed_at}
-use Rattle.mono_wheel.proofs.PollLemmas.{advanced-twice, tick-after}
+use Rattle.std.proofs.Common.{◌≡◌, ◌<◌, ◌≤◌, Some, refl, subst, sym}
+use Rattle.mono_wheel.specs.Model.{Timed, IsPending, timed_at}
+use Rattle.mono_wheel.specs.Holdings.{Advanced}
 use Rattle.mono_wheel.proofs.wheel.Wheel.go_on.Goals as goal
 
+pub move_on-requires-clause-none : goal.move_on-requires-clause-none
+move_on-requires-clause-none g c = subst (λ w. (key : _) → IsPending w key → ⊥) (sym (c.if-enter.ensures.same refl)) c.requires.none
+
+pub move_on-requires-clause-ahead : goal.move_on-requires-clause-ahead
+move_on-requires-clause-ahead g c = subst (λ w. w.elapsed ≤ c.args.now) (sym (c.if-enter.ensures.same refl)) c.requires.ahead
+
 pub returns-clause-advanced : goal.returns-clause-advanced
-returns-clause-advanced g c = advanced-twice c.args.self.now c.leap.new.self c.advance.new.self c.leap.ensures.advanced c.advance.ensures.advanced
+returns-clause-advanced g c = subst (λ w. Advanced w c.move_on.new.self) (c.if-enter.ensures.same refl) c.move_on.ensures.advanced
 
 pub returns-clause-passed : goal.returns-clause-passed
 returns-clause-passed g c none =
-    let passed = c.advance.ensures.passed none in (
-      passed.0,
-      λ key timed is.
-          let leapt = tick-after c.args.self.now.elapsed c.leap.new.self.elapsed (timed_at c.args.self.now key) (timed_at c.leap.new.self key) timed (c.leap.ensures.advanced.ticks key) is in
-          let later = passed.1 key leapt.0 leapt.1 in
-          let same = leapt.2 in
-          omega (arith, later, same),
-    )
+    subst (λ w. (c.move_on.new.self.elapsed ≡ c.args.now) × ((key : _) (timed : Timed) → timed_at w key ≡ Some timed → c.args.now < timed.tick)) (c.if-enter.ensures.same refl) (c.move_on.ensures.passed none)
+
+pub returns-clause-reached : goal.returns-clause-reached
+returns-clause-reached g c is = subst (λ w. (w.elapsed < c.move_on.new.self.elapsed) × (c.move_on.new.self.elapsed ≤ c.args.now)) (c.if-enter.ensures.same refl) (c.move_on.ensures.reached is)
