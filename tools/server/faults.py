@@ -17,7 +17,7 @@ With words it does these rows alone:
 - core: a core that gets no turn until its channel is full and the router waits
 - failed: a read or a write that fails; it ends with status 4 or 5
 - refused: each allocation is refused in turn. The server ends with status 0, and one request may be refused memory; or it
-  ends with status 6, and what it answered is right. It does not wait for the end of its input
+  ends with status 6 or 7, and what it answered is right. It does not wait for the end of its input
 
 Each other row ends with status 0, each line with one reply, by the rules of its core. No request is refused memory.
 """
@@ -40,7 +40,7 @@ TOP = pathlib.Path(__file__).resolve().parent.parent.parent
 NAMES = ["cut", "silent", "hot", "small", "hostile", "quiet", "crowd", "reader", "end", "core", "failed", "refused"]
 BLOCK = 65536
 # Out of memory, or without a thread.
-LACKING = (6,)
+LACKING = (6, 7)
 
 
 def row(name, server, cores, load, cut=None, sizes=SIZES, late=None):

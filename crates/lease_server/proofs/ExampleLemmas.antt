@@ -25,7 +25,7 @@ open_text : codes "open 4 9" ≡ call_text 4 (call.Open 9)
 open_text =
     sym (ap (λ (d : List ℕ). codes "open " ++ d ++ codes " " ++ decimal 9) (decimal_digit 4 (lit< tt)) ∙ ap (λ (d : List ℕ). codes "open " ++ 52 ∷ [] ++ codes " " ++ d) (decimal_digit 9 (lit< tt)))
 
-bad_spells_none : SpellsNone (codes "bad")
+pub bad_spells_none : SpellsNone (codes "bad")
 unfolding call_at token_call_at mail_call_at look_call_at
 bad_spells_none = none_line (codes "bad") refl
 

@@ -9,7 +9,7 @@ use Rattle.lease_server.specs.Dispatch.{Holds, HasSentAll, Answers, Sends}
 use Rattle.lease_server.specs.Splits.{Stands, HasSplit}
 use Rattle.mono_model.specs.declared.poll.Poll.{Poll}
 use Rattle.mono_model.specs.declared.poll.Poll.TheVariants.{Ready, Pending}
-use Rattle.lease_server.specs.Intakes.{Fits, FitsIn, Leads, Polls, SendsIn}
+use Rattle.lease_server.specs.Intakes.{Fits, FitsIn, IsOverIn, Leads, Polls, SendsIn}
 pub use Rattle.lease_server.specs.Routers.{leads_itself, leads_on}
 use Rattle.lease_server.specs.declared.dispatchers.Dispatcher.{Dispatcher}
 use Rattle.lease_server.specs.declared.splitters.Splitter.{Splitter}
@@ -25,7 +25,7 @@ answers_same text a b holds s = record { asked = s.asked; asks = s.asks; holds =
 
 flushed : (is : Phase) (text : List ℕ) (left : Option (List ℕ)) (a b : Splitter) → b.block ≡ a.block → b.is_long ≡ a.is_long → ((asked : List (Option Request)) → Holds asked a.dispatcher → Holds asked b.dispatcher) → FitsIn is text left a → FitsIn is text left b
 flushed phase.Reading text left a b block long holds f = stands_same text a b (ap rest_of block) long holds f
-flushed phase.Failed text left a b block long holds f = (stands_same text a b (ap rest_of block) long holds f.0, subst (λ x. HasNoFeed (rest_of x)) (sym block) f.1)
+flushed phase.Failed text left a b block long holds f = stands_same text a b (ap rest_of block) long holds f
 flushed phase.Ended text left a b block long holds f = (f.0, answers_same text a.dispatcher b.dispatcher holds f.1)
 
 module _ {S : Type 0} (left : S → Option (List ℕ)) where
@@ -46,26 +46,26 @@ module _ {S : Type 0} (left : S → Option (List ℕ)) where
   )
 
 -- all input was sent, by the phase
-sends_in : (is : Phase) (text bytes rest : List ℕ) (left : Option (List ℕ)) (s : Splitter) → (is ≡ phase.Reading → ⊥) → HasRead (Some rest) bytes left → FitsIn is (text ++ bytes) left s → HasSentAll s.dispatcher
+sends_in : (is : Phase) (text bytes rest : List ℕ) (left : Option (List ℕ)) (s : Splitter) → IsOverIn is s → HasRead (Some rest) bytes left → FitsIn is (text ++ bytes) left s → HasSentAll s.dispatcher
     → SendsIn is (text ++ rest) left s.dispatcher
-sends_in phase.Reading text bytes rest left s not read f sent = absurd (not refl)
-sends_in phase.Ended text bytes rest None s not read f sent = absurd read
-sends_in phase.Failed text bytes rest None s not read f sent = absurd read
-sends_in phase.Ended text bytes rest (Some others) s not read f sent =
+sends_in phase.Reading text bytes rest left s over read f sent = absurd over
+sends_in phase.Ended text bytes rest None s over read f sent = absurd read
+sends_in phase.Failed text bytes rest None s over read f sent = absurd read
+sends_in phase.Ended text bytes rest (Some others) s over read f sent =
     let all : rest ≡ bytes = read ∙ ap (λ l. bytes ++ l) f.0 ∙ append-nil bytes in
     subst (λ r. Sends (text ++ r) s.dispatcher) (sym all) (sends (text ++ bytes) s.dispatcher f.1 sent)
-sends_in phase.Failed text bytes rest (Some others) s not read f sent =
-    let st = f.0 in
+sends_in phase.Failed text bytes rest (Some others) s over read f sent =
+    let st = f in
     let begun : List ℕ = st.dropped ++ rest_of s.block in
     let input : text ++ rest ≡ st.taken ++ (begun ++ others) =
     ap (λ r. text ++ r) read ∙ sym (append_assoc text bytes others) ∙ ap (λ l. l ++ others) st.bytes ∙ append_assoc st.taken begun others in
-    (st.taken, begun, others, input, refl, st.ends, both_feedless st.dropped (rest_of s.block) st.begun f.1, sends st.taken s.dispatcher (record { asked = st.asked; asks = st.asks; holds = st.holds }) sent)
+    (st.taken, begun, others, input, refl, st.ends, both_feedless st.dropped (rest_of s.block) st.begun over, sends st.taken s.dispatcher (record { asked = st.asked; asks = st.asks; holds = st.holds }) sent)
 
 module _ {S : Type 0} (left : S → Option (List ℕ)) where
-  pub done : (a b : Intake S) → (b.phase ≡ phase.Reading → ⊥) → Leads left a b → HasSentAll b.splitter.dispatcher → (text rest : List ℕ) → Fits left text a → left a.source ≡ Some rest
+  pub done : (a b : Intake S) → IsOverIn b.phase b.splitter → Leads left a b → HasSentAll b.splitter.dispatcher → (text rest : List ℕ) → Fits left text a → left a.source ≡ Some rest
       → SendsIn b.phase (text ++ rest) (left b.source) b.splitter.dispatcher
-  done a b not led sent text rest f is =
-      sends_in b.phase text led.0 rest (left b.source) b.splitter not (subst (λ o. HasRead o led.0 (left b.source)) is led.1) (led.2 text f) sent
+  done a b over led sent text rest f is =
+      sends_in b.phase text led.0 rest (left b.source) b.splitter over (subst (λ o. HasRead o led.0 (left b.source)) is led.1) (led.2 text f) sent
 
 read_rest : (after : Option (List ℕ)) (bytes rest : List ℕ) → HasRead (Some rest) bytes after → (others : List ℕ) × (after ≡ Some others) × (rest ≡ bytes ++ others)
 read_rest None bytes rest read = absurd read

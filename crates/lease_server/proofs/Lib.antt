@@ -15,3 +15,8 @@ pub mod EndLemmas
 pub mod OnceLemmas
 pub mod HolderLemmas
 pub mod StationLemmas
+pub mod OrderLemmas
+pub mod CallLemmas
+pub mod CauseLemmas
+pub mod PartLemmas
+pub mod ArgumentLemmas

@@ -1,5 +1,5 @@
 -- What a printer wrote after one more text.
-use Rattle.std.proofs.Common.{◌≡◌, ◌+◌, ◌≤◌, ℕ, Bool, true, false, List, [], ◌∷◌, ◌++◌, length, take, Option, Some, None, Result, Ok, refl, sym, ap, subst, ◌∙◌, append_assoc, arith}
+use Rattle.std.proofs.Common.{◌≡◌, ◌+◌, ◌≤◌, ◌⊎◌, inl, inr, ℕ, Bool, true, false, List, [], ◌∷◌, ◌++◌, length, take, Option, Some, None, Result, Ok, refl, sym, ap, subst, ◌∙◌, append_assoc, arith}
 use Rattle.std.proofs.Math.Seq.{take-append-add, take-length}
 use Rattle.std.proofs.lemmas.Grind.{flat_map-append}
 use Rattle.std.proofs.lemmas.List.{append-nil, length-append}
@@ -12,7 +12,7 @@ use Rattle.mono_channel.specs.Polls.{HasReceived, FindsNone, PollsToReceive}
 use Rattle.lease_server.specs.Answers.{answer_line, answer_lines}
 use Rattle.lease_server.specs.Texts.{said_by, said_by_all}
 use Rattle.lease_server.specs.Outlets.{Keeps}
-use Rattle.lease_server.specs.Printers.{bytes_of, WritesIf, Fits, Leads, HasWrittenTexts}
+use Rattle.lease_server.specs.Printers.{bytes_of, WritesIf, FaultsIf, SaysWritten, Fits, Leads, HasWrittenTexts}
 use Rattle.lease_server.specs.declared.texts.Text.{Text}
 use Rattle.lease_server.specs.declared.writer.Printer.{Printer}
 use Rattle.lease_server.specs.declared.writer.Wrote.{Wrote}
@@ -47,38 +47,55 @@ written_none (Some ws) = ap Some (sym (append-nil ws))
 pub came : (old new : Ends Text) (a : Result (Option Text) AllocError) (o : Option Text) (text : Text) → a ≡ Ok o → o ≡ Some text → PollsToReceive old (Ready a) new → HasReceived old text new
 came old new a o text e f p = subst (λ x. PollsToReceive old (Ready (Ok x)) new) f (subst (λ x. PollsToReceive old (Ready x) new) e p)
 
-module _ {K : Type 0} (written : K → Option (List ℕ)) where
+says_going : (status before now : ℕ) → (status ≡ 0) ⊎ (status ≡ 6) → now ≡ before → SaysWritten status before now
+says_going status before now (inl done) same = inl (done, same)
+says_going status before now (inr memory) same = inr (inr (memory, same))
+
+-- what the status says, by whether a write failed
+says_by : (failed : Bool) (status before now : ℕ) → (failed ≡ true → status ≡ 5) → (failed ≡ false → (status ≡ 0) ⊎ (status ≡ 6)) → FaultsIf failed before now → SaysWritten status before now
+says_by true status before now write other faults = inr (inl (write refl, faults))
+says_by false status before now write other faults = says_going status before now (other refl) faults
+
+none_failed : (failed : Bool) (status : ℕ) → (failed ≡ true → status ≡ 5) → status ≡ 0 → failed ≡ false
+none_failed true status write done = absurd (omega (arith, write refl, done))
+none_failed false status write done = refl
+
+module _ {K : Type 0} (written : K → Option (List ℕ)) (faults : K → ℕ) where
   -- nothing came
-  pub printed_none : (a b : Printer K) → FindsNone a.texts b.texts → b.sink ≡ a.sink → b.has_failed ≡ a.has_failed → Leads written a b
+  pub printed_none : (a b : Printer K) → FindsNone a.texts b.texts → b.sink ≡ a.sink → b.has_failed ≡ a.has_failed → Leads written faults a b
   printed_none a b none sink failed = (
     (none.0, none.2, none.4),
-    λ before f.
-        subst (λ t. WritesIf b.has_failed before (written b.sink) (bytes_of t)) (sym none.1) (subst (λ s. WritesIf b.has_failed before (written s) (bytes_of (received_by a.texts))) (sym sink) (subst (λ h. WritesIf h before (written a.sink) (bytes_of (received_by a.texts))) (sym failed) f)),
+    (λ before f.
+        subst (λ t. WritesIf b.has_failed before (written b.sink) (bytes_of t)) (sym none.1) (subst (λ s. WritesIf b.has_failed before (written s) (bytes_of (received_by a.texts))) (sym sink) (subst (λ h. WritesIf h before (written a.sink) (bytes_of (received_by a.texts))) (sym failed) f))),
+    λ before f. subst (λ h. FaultsIf h before (faults b.sink)) (sym failed) (subst (λ s. FaultsIf a.has_failed before (faults s)) (sym sink) f),
   )
 
   -- a text came, and was written
-  pub printed : (a b : Printer K) (mid : Ends Text) (text : Text) → a.has_failed ≡ false → HasReceived a.texts text mid → b.texts ≡ mid → WritesIf b.has_failed (written a.sink) (written b.sink) (answer_lines (said_by text)) → Leads written a b
-  printed a b mid text going got texts wrote = (
+  pub printed : (a b : Printer K) (mid : Ends Text) (text : Text) → a.has_failed ≡ false → HasReceived a.texts text mid → b.texts ≡ mid → WritesIf b.has_failed (written a.sink) (written b.sink) (answer_lines (said_by text))
+      → FaultsIf b.has_failed (faults a.sink) (faults b.sink) → Leads written faults a b
+  printed a b mid text going got texts wrote counted = (
     subst (λ e. Keeps a.texts e) (sym texts) (got.0, got.2, got.3),
-    λ before f.
+    (λ before f.
         let was = received_by a.texts in
         let all : bytes_of (received_by b.texts) ≡ bytes_of was ++ answer_lines (said_by text) = ap (λ e. bytes_of (received_by e)) texts ∙ ap (λ l. bytes_of l) got.1 ∙ bytes_more was text in
         let whole : HasWritten before (written a.sink) (bytes_of was) = subst (λ h. WritesIf h before (written a.sink) (bytes_of was)) going f in
-        subst (λ l. WritesIf b.has_failed before (written b.sink) l) (sym all) (writes_on b.has_failed before (written a.sink) (written b.sink) (bytes_of was) (answer_lines (said_by text)) whole wrote),
+        subst (λ l. WritesIf b.has_failed before (written b.sink) l) (sym all) (writes_on b.has_failed before (written a.sink) (written b.sink) (bytes_of was) (answer_lines (said_by text)) whole wrote)),
+    λ before f. subst (λ n. FaultsIf b.has_failed n (faults b.sink)) (subst (λ h. FaultsIf h before (faults a.sink)) going f) counted,
   )
 
   -- all that a writer's thread did
-  pub has_written : (texts : Ends Text) (sink : K) (a b : Printer K) (wrote : Wrote K) → a ≡ record { texts = texts; sink = sink; has_failed = false } → Leads written a b → wrote.texts ≡ b.texts → wrote.sink ≡ b.sink
-      → (wrote.status ≡ 0 → b.has_failed ≡ false) → HasWrittenTexts written texts sink wrote
-  has_written texts sink a b wrote start led same_texts same_sink status =
+  pub has_written : (texts : Ends Text) (sink : K) (a b : Printer K) (wrote : Wrote K) → a ≡ record { texts = texts; sink = sink; has_failed = false } → Leads written faults a b → wrote.texts ≡ b.texts → wrote.sink ≡ b.sink
+      → (b.has_failed ≡ true → wrote.status ≡ 5) → (b.has_failed ≡ false → (wrote.status ≡ 0) ⊎ (wrote.status ≡ 6)) → HasWrittenTexts written faults texts sink wrote
+  has_written texts sink a b wrote start led same_texts same_sink write other =
       let first : Printer K = record { texts = texts; sink = sink; has_failed = false } in
-      let leads : Leads written first b = subst (λ x. Leads written x b) start led in
+      let leads : Leads written faults first b = subst (λ x. Leads written faults x b) start led in
       let fits : received_by texts ≡ [] → WritesIf b.has_failed (written sink) (written b.sink) (bytes_of (received_by b.texts)) =
       λ none. leads.1 (written sink) (subst (λ l. HasWritten (written sink) (written sink) (bytes_of l)) (sym none) (written_none (written sink))) in
       let here : (P : Option (List ℕ) → List ℕ → Type 0) → P (written b.sink) (bytes_of (received_by b.texts)) → P (written wrote.sink) (bytes_of (received_by wrote.texts)) =
       λ P p. subst (λ s. P (written s) (bytes_of (received_by wrote.texts))) (sym same_sink) (subst (λ e. P (written b.sink) (bytes_of (received_by e))) (sym same_texts) p) in
       record {
         same = subst (λ e. Keeps texts e) (sym same_texts) leads.0;
-        whole = λ none done. here (λ now bytes. HasWritten (written sink) now bytes) (subst (λ h. WritesIf h (written sink) (written b.sink) (bytes_of (received_by b.texts))) (status done) (fits none));
+        whole = λ none done. here (λ now bytes. HasWritten (written sink) now bytes) (subst (λ h. WritesIf h (written sink) (written b.sink) (bytes_of (received_by b.texts))) (none_failed b.has_failed wrote.status write done) (fits none));
         begun = λ none. here (λ now bytes. HasWrittenPrefix (written sink) now bytes) (begun_if b.has_failed (written sink) (written b.sink) (bytes_of (received_by b.texts)) (fits none));
+        says = subst (λ s. SaysWritten wrote.status (faults sink) (faults s)) (sym same_sink) (says_by b.has_failed wrote.status (faults sink) (faults b.sink) write other (leads.2 (faults sink) refl));
       }

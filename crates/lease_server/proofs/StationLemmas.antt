@@ -27,7 +27,7 @@ use Rattle.lease_server.specs.Lanes.{joined}
 use Rattle.lease_server.specs.Pasts.{events_of, replies_of}
 use Rattle.lease_server.specs.Served.{Begins, PerformsSome, Takes, ServesAt, Comes}
 use Rattle.lease_server.specs.EndToEnd.{requests_in, RunsThrough}
-use Rattle.lease_server.specs.Threads.{HasEnded}
+use Rattle.lease_server.specs.CoreEnds.{HasEnded}
 use Rattle.lease_server.specs.Desks.{HasRun}
 use Rattle.lease_server.specs.Desks as desks
 use Rattle.lease_server.specs.Stations.{FitsIn, Fits, Leads, Works, stage_of, IsNew, EndsStation}

@@ -1,8 +1,8 @@
 -- What the server does from the bytes that it reads to the bytes that it writes.
-use Rattle.std.specs.Prelude.{◌≡◌, ◌+◌, ◌<◌, ◌≤◌, ℕ, List, [], ◌∷◌, ◌++◌, map, length, Option, Some}
+use Rattle.std.specs.Prelude.{◌≡◌, ◌⊎◌, ◌+◌, ◌<◌, ◌≤◌, ℕ, List, [], ◌∷◌, ◌++◌, map, length, Option, Some}
 use Rattle.mono_model.specs.Valid.{times}
 use Rattle.mono_text.specs.Lines.{lines}
-use Rattle.mono_text.specs.Environment.{HasReadAll, HasWritten, HasWrittenPrefix}
+use Rattle.mono_text.specs.Environment.{HasRead, HasReadAll, HasRisen, HasWritten, HasWrittenPrefix}
 use Rattle.mono_channel.specs.Delivery.{Interleaves}
 use Rattle.mono_session.specs.Keeper.{owner_answer}
 use Rattle.lease_core.specs.declared.requests.Request.{Request}
@@ -10,7 +10,7 @@ use Rattle.lease_core.specs.declared.requests.Reply.{Reply}
 use Rattle.lease_core.specs.declared.sizes.Sizes.{Sizes}
 use Rattle.lease_core.specs.Cores.{CoreState, new_core}
 use Rattle.lease_core.specs.Steps.{Event, Advance, Handle, Finish, Run}
-use Rattle.lease_server.specs.Routing.{Ask, routed, refused}
+use Rattle.lease_server.specs.Routing.{Ask, EndsLines, HasNoFeed, routed, refused}
 use Rattle.lease_server.specs.Answers.{number_of, answer_lines, by_core, refusals_of}
 use Rattle.lease_server.specs.declared.answers.Answer.{Answer}
 
@@ -63,9 +63,50 @@ pub record ServesAll (cores : ℕ) (sizes : Sizes) (input output : List ℕ) : T
 abbrev pub HasServed : ℕ → Sizes → Option (List ℕ) → Option (List ℕ) → Option (List ℕ) → Option (List ℕ) → Type 0
 HasServed cores sizes left rest before after = (input : List ℕ) × (output : List ℕ) × HasReadAll left input rest × HasWritten before after output × ServesAll cores sizes input output
 
--- The lines of some answers were written, or a beginning of them: all lines but the last are whole.
-abbrev pub WritesAnswers : Option (List ℕ) → Option (List ℕ) → Type 0
-WritesAnswers before after = (answers : List Answer) × HasWrittenPrefix before after (answer_lines answers)
+-- A read failed. All lines that were read whole were answered, and the output that serves them was written.
+abbrev pub HasServedLines : ℕ → Sizes → Option (List ℕ) → Option (List ℕ) → Option (List ℕ) → Option (List ℕ) → Type 0
+HasServedLines cores sizes left rest before after =
+    (input : List ℕ) × (begun : List ℕ) × (output : List ℕ) × HasRead left (input ++ begun) rest × EndsLines input × HasNoFeed begun × HasWritten before after output × ServesAll cores sizes input output
+
+-- The answers of each core, from core k on, are a beginning of the replies of one run. The requests of the run are a beginning
+-- of those of the core's keys. A core that was not started answered nothing.
+abbrev pub EachRunsPart : ℕ → ℕ → Sizes → List (Option Request) → List (List Answer) → Type 0
+EachRunsPart k cores sizes asked [] = k ≤ cores
+EachRunsPart k cores sizes asked (answers ∷ others) = RunsPart k sizes (routed k cores asked) answers × EachRunsPart (k + 1) cores sizes asked others
+
+-- These bytes of the input were taken: all of it, or whole lines at its beginning, after which more bytes may have been read.
+abbrev pub HasTakenLines : Option (List ℕ) → List ℕ → Option (List ℕ) → Type 0
+HasTakenLines left input rest = HasReadAll left input rest ⊎ ((begun : List ℕ) × HasRead left (input ++ begun) rest × EndsLines input)
+
+-- The answers interleave a beginning of the refusals of the lines that ask nothing and beginnings of the replies of the cores.
+-- Each core's replies are those of one run of its model from a new core. The requests of that run are a beginning of those of
+-- the lines whose key has that core, in order, each with its line's number.
+pub record ServesPart (cores : ℕ) (sizes : Sizes) (input : List ℕ) (answers : List Answer) : Type 0 where
+  pub asked : List (Option Request)
+  pub asks : Ask 1 (lines input) asked
+  pub refusals : List Answer
+  pub unsaid : List Answer
+  pub refuses : refusals_of (refused 1 asked) ≡ refusals ++ unsaid
+  pub each : List (List Answer)
+  pub runs : EachRunsPart 0 cores sizes asked each
+  pub interleave : Interleaves (refusals ∷ each) answers
+
+-- Lines were taken, and of the lines of answers that serve them in part a beginning was written: all lines but the last are
+-- whole.
+abbrev pub HasServedPart : ℕ → Sizes → Option (List ℕ) → Option (List ℕ) → Option (List ℕ) → Option (List ℕ) → Type 0
+HasServedPart cores sizes left rest before after =
+    (input : List ℕ) × (answers : List Answer) × HasTakenLines left input rest × HasWrittenPrefix before after (answer_lines answers) × ServesPart cores sizes input answers
+
+-- What the status of a server says of the faults of its source and of its sink, before and now. With 0 no read and no write
+-- failed. With 4 a read failed, and with 5 a write. With 6 memory ran out. With 7 a thread could not be made, and nothing was
+-- read. If it is not 5, no write failed.
+abbrev pub SaysWhich : ℕ → ℕ → ℕ → ℕ → ℕ → Type 0
+SaysWhich status reads reads_now writes writes_now =
+    ((status ≡ 0) × (reads_now ≡ reads) × (writes_now ≡ writes))
+    ⊎ ((status ≡ 4) × HasRisen reads reads_now × (writes_now ≡ writes))
+    ⊎ ((status ≡ 5) × HasRisen writes writes_now)
+    ⊎ ((status ≡ 6) × (writes_now ≡ writes))
+    ⊎ ((status ≡ 7) × (reads_now ≡ reads) × (writes_now ≡ writes))
 
 -- Each line of the input is answered exactly once, by its number, and nothing else is answered.
 abbrev pub AnswersEachLineOnce : Type 0

@@ -5,9 +5,16 @@ use Rattle.mono_text.specs.Lines.{lines}
 use Rattle.lease_core.specs.declared.requests.Call.{Call}
 use Rattle.lease_core.specs.declared.requests.Call.TheVariants as call
 use Rattle.lease_core.specs.declared.requests.Request.{Request}
+use Rattle.lease_core.specs.declared.requests.Reply.{Reply}
+use Rattle.lease_core.specs.declared.requests.Outcome.TheVariants as outcome
+use Rattle.lease_core.specs.declared.sizes.Sizes.{Sizes}
+use Rattle.lease_core.specs.Cores.{new_core, at_once}
+use Rattle.lease_core.specs.Steps.{counts_of}
 use Rattle.lease_lines.specs.Lines.{call_text}
 use Rattle.lease_server.specs.Routing.{Ask, routed, all_routed, refused}
 use Rattle.lease_server.specs.Answers.{answer_lines, refusals_of}
+use Rattle.lease_server.specs.EndToEnd.{ServesPart}
+use Rattle.lease_server.specs.declared.answers.Answer.TheVariants.{Bad, By}
 
 abbrev pub spawn : ℕ → ℕ → Request
 spawn number key = record { number = number; key = key; call = call.Spawn }
@@ -56,3 +63,19 @@ request_lines requests = flat_map (λ (r : Request). call_text r.key r.call ++ 1
 -- A thousand lines ask their requests. Each of four cores gets about a quarter of them.
 abbrev pub ManyAsk : Type 0
 ManyAsk = Ask 1 (lines (request_lines (many 1 1000))) (map Some (many 1 1000)) × (map length (all_routed 4 (map Some (many 1 1000))) ≡ 249 ∷ 251 ∷ 250 ∷ 250 ∷ [])
+
+-- Three lines, of which the second asks for the counts of its core, and the others spell no request.
+abbrev pub three_lines : List ℕ
+three_lines = codes "bad" ++ 10 ∷ (codes "stats 4" ++ 10 ∷ (codes "bad" ++ 10 ∷ []))
+
+-- The reply of a new core to line 2.
+abbrev pub counted : Sizes → Reply
+counted sizes = at_once (new_core sizes) 2 (outcome.Counted (counts_of (new_core sizes)))
+
+-- Three lines are served in part before anything was answered, if line 2 alone was answered, and if line 1 was refused after it.
+abbrev pub ServesInPart : Type 0
+ServesInPart = (sizes : Sizes) → ServesPart 1 sizes three_lines [] × ServesPart 1 sizes three_lines (By 0 (counted sizes) ∷ []) × ServesPart 1 sizes three_lines (By 0 (counted sizes) ∷ Bad 1 ∷ [])
+
+-- They are not served in part if line 3 was refused and line 1 was not.
+abbrev pub ServesNotInPart : Type 0
+ServesNotInPart = (sizes : Sizes) → ServesPart 1 sizes three_lines (Bad 3 ∷ []) → ⊥

@@ -1,11 +1,11 @@
 -- What an intake did with its source.
-use Rattle.std.specs.Prelude.{◌≡◌, ℕ, List, [], ◌++◌, Option, Some}
+use Rattle.std.specs.Prelude.{⊤, ◌≡◌, ◌⊎◌, ℕ, List, [], ◌++◌, Option, Some}
 use Rattle.mono_model.specs.declared.poll.Poll.{Poll}
 use Rattle.mono_model.specs.declared.poll.Poll.TheVariants.{Ready, Pending}
-use Rattle.mono_text.specs.Environment.{HasRead}
+use Rattle.mono_text.specs.Environment.{HasRead, HasRisen}
 use Rattle.lease_server.specs.Blocks.{rest_of, IsAtEnd}
 use Rattle.lease_server.specs.Routing.{HasNoFeed, EndsLines}
-use Rattle.lease_server.specs.Dispatch.{Answers, Sends}
+use Rattle.lease_server.specs.Dispatch.{Answers, HasSentAll, Sends}
 use Rattle.lease_server.specs.Splits.{Stands}
 use Rattle.lease_server.specs.declared.dispatchers.Dispatcher.{Dispatcher}
 use Rattle.lease_server.specs.declared.splitters.Splitter.{Splitter}
@@ -14,11 +14,23 @@ use Rattle.lease_server.specs.declared.intakes.Phase.TheVariants as phase
 use Rattle.lease_server.specs.declared.intakes.Intake.{Intake}
 
 -- In this phase the text was read, and the source has this left. At the end of the input nothing is left, and each line of the
--- text was answered. Before, and after a failed read, each line that has a line feed was answered or is in the block.
+-- text was answered. Before, and after a failed read, each line was answered or is in the block.
 abbrev pub FitsIn : Phase → List ℕ → Option (List ℕ) → Splitter → Type 0
 FitsIn phase.Reading text left splitter = Stands text splitter
-FitsIn phase.Failed text left splitter = Stands text splitter × HasNoFeed (rest_of splitter.block)
+FitsIn phase.Failed text left splitter = Stands text splitter
 FitsIn phase.Ended text left splitter = IsAtEnd left × Answers text splitter.dispatcher
+
+-- Nothing more is read or taken. After a failed read the block has no whole line.
+abbrev pub IsOverIn : Phase → Splitter → Type 0
+IsOverIn phase.Reading splitter = ⊥
+IsOverIn phase.Failed splitter = HasNoFeed (rest_of splitter.block)
+IsOverIn phase.Ended splitter = ⊤
+
+-- The source's count of faults, before and now. It rose if and only if the phase says that a read failed.
+abbrev pub FaultsIn : Phase → ℕ → ℕ → Type 0
+FaultsIn phase.Reading before now = now ≡ before
+FaultsIn phase.Failed before now = HasRisen before now
+FaultsIn phase.Ended before now = now ≡ before
 
 -- Of all input each line was sent: its request to its core, or its refusal. After a failed read, that is so of all lines
 -- that were read with their line feed; the bytes of one line after them were read, and the source has the others left.
@@ -33,6 +45,14 @@ abbrev pub status_of : Phase → ℕ
 status_of phase.Reading = 0
 status_of phase.Failed = 4
 status_of phase.Ended = 0
+
+-- The intake ends with this status: 6, or that of its phase. Then nothing more is taken, and all that was given was sent.
+abbrev pub Ends : {S : Type 0} → Intake S → ℕ → Type 0
+Ends intake status = (status ≡ 6) ⊎ ((status ≡ status_of intake.phase) × IsOverIn intake.phase intake.splitter × HasSentAll intake.splitter.dispatcher)
+
+-- Reads that failed show in the phase.
+abbrev pub LeadsFaults : {S : Type 0} → (S → ℕ) → Intake S → Intake S → Type 0
+LeadsFaults faults old new = (before : ℕ) → FaultsIn old.phase before (faults old.source) → FaultsIn new.phase before (faults new.source)
 
 module _ {S : Type 0} (left : S → Option (List ℕ)) where
   -- The text was read from the source.

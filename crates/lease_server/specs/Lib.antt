@@ -16,5 +16,11 @@ pub mod Examples
 pub mod EndToEnd
 pub mod Printers
 pub mod Routers
+pub mod CoreEnds
+pub mod Places
 pub mod Threads
 pub mod Stations
+pub mod Calls
+pub mod Arguments
+pub mod Causes
+pub mod Orders

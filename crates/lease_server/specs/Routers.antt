@@ -6,15 +6,15 @@ use Rattle.mono_text.specs.Environment.{HasRead}
 use Rattle.mono_channel.specs.Ends.{Ends}
 use Rattle.lease_server.specs.Outlets.{Stays}
 use Rattle.lease_server.specs.Dispatch.{HaveSameWays, KeepsWays}
-use Rattle.lease_server.specs.Intakes.{Fits, Leads}
+use Rattle.lease_server.specs.Intakes.{Fits, Leads, LeadsFaults}
 use Rattle.lease_server.specs.declared.lanes.Lane.{Lane}
 use Rattle.lease_server.specs.declared.dispatchers.Dispatcher.{Dispatcher}
 use Rattle.lease_server.specs.declared.intakes.Intake.{Intake}
 
-module _ {S : Type 0} (left : S → Option (List ℕ)) where
-  -- Bytes were read, and what was read and what was given agree. The channels stay.
+module _ {S : Type 0} (left : S → Option (List ℕ)) (faults : S → ℕ) where
+  -- Bytes were read, and what was read and what was given agree. The channels stay, and reads that failed show in the phase.
   abbrev pub LeadsOn : Intake S → Intake S → Type 0
-  LeadsOn old new = Leads left old new × KeepsWays old.splitter.dispatcher new.splitter.dispatcher
+  LeadsOn old new = Leads left old new × KeepsWays old.splitter.dispatcher new.splitter.dispatcher × LeadsFaults faults old new
 
 pub stays : {M : Type 0} (a : Ends M) → Stays a a
 stays a = (refl, refl)
@@ -58,9 +58,9 @@ module _ {S : Type 0} (left : S → Option (List ℕ)) where
   leads_on a b c p q =
       (p.0 ++ q.0, read_on (left a.source) (left b.source) (left c.source) p.0 q.0 p.1 q.1, λ text f. subst (λ t. Fits left t c) (append_assoc text p.0 q.0) (q.2 (text ++ p.0) (p.2 text f)))
 
-module _ {S : Type 0} (left : S → Option (List ℕ)) where
-  pub itself : (a : Intake S) → LeadsOn left a a
-  itself a = (leads_itself left a, keeps_itself a.splitter.dispatcher)
+module _ {S : Type 0} (left : S → Option (List ℕ)) (faults : S → ℕ) where
+  pub itself : (a : Intake S) → LeadsOn left faults a a
+  itself a = (leads_itself left a, keeps_itself a.splitter.dispatcher, λ before f. f)
 
-  pub on : (a b c : Intake S) → LeadsOn left a b → LeadsOn left b c → LeadsOn left a c
-  on a b c p q = (leads_on left a b c p.0 q.0, keeps_on a.splitter.dispatcher b.splitter.dispatcher c.splitter.dispatcher p.1 q.1)
+  pub on : (a b c : Intake S) → LeadsOn left faults a b → LeadsOn left faults b c → LeadsOn left faults a c
+  on a b c p q = (leads_on left a b c p.0 q.0, keeps_on a.splitter.dispatcher b.splitter.dispatcher c.splitter.dispatcher p.1 q.1, λ before f. q.2 before (p.2 before f))

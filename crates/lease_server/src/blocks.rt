@@ -1,6 +1,6 @@
 // A block of bytes that were read and are not taken yet.
 ghost use Rattle.std.specs.Prelude.{◌≡◌, ◌+◌, ◌≤◌, length, take, drop, IfOk, OnErr};
-ghost use Rattle.mono_text.specs.Environment.{Reads};
+ghost use Rattle.mono_text.specs.Environment.{HasCause, Reads};
 
 use mono_text::{Source, SourceFault};
 
@@ -15,6 +15,7 @@ fn read_from<S: Source>(
     ensures within { IfOk result (λ count. place + count ≤ length buffer.old) }
     ensures bytes { IfOk result (λ count. Reads (S.left source.old) (S.left source.new) (drop place buffer.new) count) }
     ensures none { OnErr result (S.left source.new ≡ S.left source.old) }
+    ensures cause { HasCause (S.faults source.old) (S.faults source.new) result }
 {
     source.read(&mut buffer[place..])
 }
@@ -82,6 +83,7 @@ impl Block {
         ensures read { IfOk result (λ count. HasTaken (S.left source.old) (rest_of self.old) count (S.left source.new) (rest_of self.new)) }
         ensures end { IfOk result (λ count. self.old.end < size_of self.old → count ≡ 0 → IsAtEnd (S.left source.new)) }
         ensures fault { OnErr result ((rest_of self.new ≡ rest_of self.old) × (S.left source.new ≡ S.left source.old)) }
+        ensures cause { HasCause (S.faults source.old) (S.faults source.new) result }
         ensures size { size_of self.new ≡ size_of self.old }
     {
         let count = read_from(source, &mut self.buffer, self.end)?;

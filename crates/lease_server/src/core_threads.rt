@@ -5,7 +5,7 @@ ghost use Rattle.mono_rt.specs.Views.{shared_of};
 ghost use Rattle.lease_server.specs.CoreRuns.{CalledOnce};
 ghost use Rattle.lease_server.specs.Desks.{HasRun};
 ghost use Rattle.lease_server.specs.Stations.{Leads, IsNew, IsDone, EndsStation};
-ghost use Rattle.lease_server.specs.Threads.{HasEnded};
+ghost use Rattle.lease_server.specs.CoreEnds.{HasEnded};
 
 use crate::clocks::CoreClock;
 use crate::cores::CoreTask;

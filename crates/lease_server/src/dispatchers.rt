@@ -1,5 +1,5 @@
 // The numbers of the lines, and the ways of their requests and refusals.
-ghost use Rattle.std.specs.Prelude.{◌≡◌, ◌+◌, ◌++◌, ◌∷◌, [], true, List, map, Option, None, Some, IfOk, OnOk, OnErr};
+ghost use Rattle.std.specs.Prelude.{◌≡◌, ◌+◌, ◌++◌, ◌∷◌, [], true, List, map, Option, None, Some, IfErr, IfOk, OnOk, OnErr};
 ghost use Rattle.mono_channel.specs.Delivery.{shares_kept, shares_given};
 ghost use Rattle.mono_channel.specs.Ends.{sent_by, shares_of, IsPair};
 ghost use Rattle.lease_core.specs.declared.requests.Request.{Request};
@@ -108,7 +108,10 @@ impl Dispatcher {
         ensures lanes { self.new.lanes.items ≡ self.old.lanes.items }
         ensures same { IsPair self.new.refusals.outlet.sender self.old.refusals.outlet.sender }
         ensures further { IfOk result (λ sender. IsPair sender self.old.refusals.outlet.sender × (sent_by sender ≡ [])) }
-        ensures shares { IfOk result (λ sender. (shares_of self.new.refusals.outlet.sender ≡ shares_kept (shares_of self.old.refusals.outlet.sender)) × (shares_of sender ≡ shares_given (shares_of self.old.refusals.outlet.sender))) }
+        ensures shares { IfOk result (λ sender. (shares_of self.new.refusals.outlet.sender
+            ≡ shares_kept (shares_of self.old.refusals.outlet.sender))
+            × (shares_of sender ≡ shares_given (shares_of self.old.refusals.outlet.sender))) }
+        ensures none { IfErr result (λ e. shares_of self.new.refusals.outlet.sender ≡ shares_of self.old.refusals.outlet.sender) }
     {
         self.refusals.try_clone(rt)
     }

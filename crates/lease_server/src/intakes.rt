@@ -4,14 +4,14 @@ ghost use Rattle.lease_server.specs.Blocks.{rest_of, IsAtEnd};
 ghost use Rattle.lease_server.specs.Routing.{HasNoFeed};
 ghost use Rattle.lease_server.specs.Dispatch.{Holds, HasSentAll, KeepsWays};
 ghost use Rattle.lease_server.specs.Splits.{Stands};
-ghost use Rattle.lease_server.specs.Intakes.{Fits, Leads, Polls, SendsIn, status_of};
+ghost use Rattle.lease_server.specs.Intakes.{Ends, FaultsIn, Fits, IsOverIn, Leads, LeadsFaults, Polls, SendsIn, status_of};
 ghost use Rattle.lease_server.specs.Routers.{LeadsOn};
 
 use crate::dispatchers::Dispatcher;
 use crate::splitters::Splitter;
 use crate::status;
 use mono_rt::{Host, Poll, RemoteWaker, UnparkHandle};
-use mono_text::{Source, SourceFault};
+use mono_text::Source;
 use std::alloc::{AllocError, Global};
 
 /// How far the input was read.
@@ -39,6 +39,7 @@ impl<S: Source> Intake<S> {
         ensures source { result.source ≡ source }
         ensures dispatcher { result.splitter.dispatcher ≡ dispatcher }
         ensures fits { Holds [] dispatcher → Fits S.left [] result }
+        ensures faults { FaultsIn result.phase (S.faults source) (S.faults result.source) }
     {
         Intake {
             source,
@@ -51,6 +52,7 @@ impl<S: Source> Intake<S> {
     pub fn close<R: Host>(&mut self, rt: &R)
         ensures source { self.new.source ≡ self.old.source }
         ensures phase { self.new.phase ≡ self.old.phase }
+        ensures block { self.new.splitter.block ≡ self.old.splitter.block }
         ensures lanes { self.new.splitter.dispatcher.lanes.items ≡ self.old.splitter.dispatcher.lanes.items }
         ensures refusals { self.new.splitter.dispatcher.refusals ≡ self.old.splitter.dispatcher.refusals }
     {
@@ -58,21 +60,17 @@ impl<S: Source> Intake<S> {
     }
 
     /// Returns the status with which the intake ends: `DONE` if the input has ended and all was sent, a failed read, or
-    /// out of memory.
+    /// out of memory. After a failed read each whole line that was read was sent, too.
     pub fn end(&self) -> u64
-        ensures { result ≡ 0 → (self.now.phase ≡ Phase.Ended) × HasSentAll self.now.splitter.dispatcher }
+        ensures { Ends self.now result }
     {
-        match self.phase {
-            Phase::Reading => status::MEMORY,
-            Phase::Failed => status::READ,
-            Phase::Ended => {
-                if self.splitter.dispatcher.has_sent_all() {
-                    status::DONE
-                } else {
-                    status::MEMORY
-                }
-            }
+        if !self.splitter.dispatcher.has_sent_all() {
+            return status::MEMORY;
         }
+        if !self.is_over() {
+            return status::MEMORY;
+        }
+        self.status()
     }
 
     /// Returns the source and the dispatcher.
@@ -108,28 +106,34 @@ impl<S: Source> Intake<S> {
         }
     }
 
-    // Ends the reading if the last read failed or found the end of the input. Then it takes the last line.
+    // Returns whether nothing more is read or taken: the input has ended, or a read failed and each whole line that was
+    // read was taken.
+    fn is_over(&self) -> bool
+        ensures { result ≡ true → IsOverIn self.now.phase self.now.splitter }
+    {
+        match self.phase {
+            Phase::Ended => true,
+            Phase::Failed => !self.splitter.has_line(),
+            _ => false,
+        }
+    }
+
+    // Ends the reading if the last read found the end of the input. Then it takes the last line.
     #[tactic(auto, using(crate::proofs::WayLemmas::keeps_itself))]
-    fn end_if(&mut self, outcome: Result<usize, SourceFault>) -> Result<(), AllocError>
+    fn end_if(&mut self, count: usize) -> Result<(), AllocError>
         requires reading { self.old.phase ≡ Phase.Reading }
         requires begun { HasNoFeed (rest_of self.old.splitter.block) }
-        requires end { IfOk outcome (λ count. count ≡ 0 → IsAtEnd (S.left self.old.source)) }
+        requires end { count ≡ 0 → IsAtEnd (S.left self.old.source) }
         ensures source { self.new.source ≡ self.old.source }
+        ensures going { self.new.phase ≡ Phase.Failed → ⊥ }
         ensures ways { KeepsWays self.old.splitter.dispatcher self.new.splitter.dispatcher }
         ensures fits { (text : List ℕ) → Stands text self.old.splitter → Fits S.left text self.new }
     {
-        match outcome {
-            Err(_) => {
-                self.phase = Phase::Failed;
-                Ok(())
-            }
-            Ok(0) => {
-                self.splitter.take_last()?;
-                self.phase = Phase::Ended;
-                Ok(())
-            }
-            Ok(_) => Ok(()),
+        if count == 0 {
+            self.splitter.take_last()?;
+            self.phase = Phase::Ended;
         }
+        Ok(())
     }
 
     // Reads once, and takes the lines that then have a line feed. At the end of the input, takes the last line too.
@@ -137,13 +141,21 @@ impl<S: Source> Intake<S> {
         requires { self.old.phase ≡ Phase.Reading }
         ensures ways { KeepsWays self.old.splitter.dispatcher self.new.splitter.dispatcher }
         ensures led { Leads S.left self.old self.new }
+        ensures faults { LeadsFaults S.faults self.old self.new }
     {
         if !self.splitter.can_read() {
             return Err(AllocError);
         }
-        let outcome = self.splitter.read(&mut self.source);
-        self.splitter.take_lines()?;
-        self.end_if(outcome)
+        match self.splitter.read(&mut self.source) {
+            Err(_) => {
+                self.phase = Phase::Failed;
+                Ok(())
+            }
+            Ok(count) => {
+                self.splitter.take_lines()?;
+                self.end_if(count)
+            }
+        }
     }
 
     /// Sends and reads until a channel is full or the input has ended. Returns a status if it is done: of the intake, or
@@ -154,7 +166,7 @@ impl<S: Source> Intake<S> {
         alloc: Global,
         waker: &RemoteWaker<UnparkHandle>,
     ) -> Poll<u64>
-        ensures led { LeadsOn S.left self.old self.new }
+        ensures led { LeadsOn S.left S.faults self.old self.new }
         ensures polled { Polls S.left self.old result self.new }
     {
         match self.go_on(rt, alloc, waker) {
@@ -177,13 +189,18 @@ impl<S: Source> Intake<S> {
     ) -> Result<bool, AllocError>
         ensures ways { KeepsWays self.old.splitter.dispatcher self.new.splitter.dispatcher }
         ensures led { Leads S.left self.old self.new }
-        ensures done { IfOk result (λ is_done. is_done ≡ true → (text : List ℕ) (rest : List ℕ) → Fits S.left text self.old → S.left self.old.source ≡ Some rest → SendsIn self.new.phase (text ++ rest) (S.left self.new.source) self.new.splitter.dispatcher) }
+        ensures faults { LeadsFaults S.faults self.old self.new }
+        ensures done { IfOk result (λ is_done. is_done ≡ true → (text : List ℕ) (rest : List ℕ) → Fits S.left text self.old →
+            S.left self.old.source ≡ Some rest → SendsIn self.new.phase (text ++ rest) (S.left self.new.source) self.new.splitter.dispatcher) }
     {
         for _ in 0..u64::MAX {
             if !self.splitter.dispatcher.flush(rt, alloc, waker)? {
                 return Ok(false);
             }
             if self.has_ended() {
+                if !self.is_over() {
+                    return Err(AllocError);
+                }
                 return Ok(true);
             }
             self.read()?;

@@ -1,5 +1,5 @@
 // The end of a channel, with the message that was not sent yet.
-ghost use Rattle.std.specs.Prelude.{◌≡◌, ◌++◌, ◌∷◌, [], true, IfOk, None};
+ghost use Rattle.std.specs.Prelude.{◌≡◌, ◌++◌, ◌∷◌, [], true, IfErr, IfOk, None};
 ghost use Rattle.mono_channel.specs.Delivery.{shares_kept, shares_given};
 ghost use Rattle.mono_channel.specs.Ends.{sent_by, shares_of, IsPair};
 ghost use Rattle.mono_channel.specs.Errors.{unsent};
@@ -51,6 +51,7 @@ impl<M: Drop> Outlet<M> {
         ensures passed { passed self.new ≡ passed self.old }
         ensures further { IfOk result (λ sender. IsPair sender self.old.sender × (sent_by sender ≡ [])) }
         ensures shares { IfOk result (λ sender. (shares_of self.new.sender ≡ shares_kept (shares_of self.old.sender)) × (shares_of sender ≡ shares_given (shares_of self.old.sender))) }
+        ensures none { IfErr result (λ e. shares_of self.new.sender ≡ shares_of self.old.sender) }
     {
         self.sender.try_clone(rt)
     }

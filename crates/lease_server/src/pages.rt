@@ -1,4 +1,4 @@
-// The pages that the program shows, and the causes that it prints.
+// The pages that the program shows.
 ghost use Rattle.std.specs.Prelude.{◌≡◌, ◌↔◌, IfNone, IfSome, IsTrue};
 ghost use Rattle.lease_server.specs.Pages.{Asks, AsksNothing, IsHelpFlag, IsHelpWord, Shows, page_text};
 
@@ -32,7 +32,7 @@ requests, and their answers; all numbers are below 2^64, and the key KEY decides
 a refusal is: refused at-capacity, invalid, no-session, zero-limit, doubled, not-in, bad-bucket, too-many, no-bucket, idle,
   no-actor or out-of-memory
 a reply is: LINE CORE ARRIVED TICK ANSWER, with two ticks of the core in milliseconds; to any other line: LINE bad
-exit status: 0 done, 2 other words, 4 a read failed, 5 a write failed, 6 out of memory or threads
+exit status: 0 done, 2 other words, 4 a read failed, 5 a write failed, 6 out of memory, 7 no thread
 other words: --help, -h or help; --version
 example: printf 'open 1 60000\\nacquire 1 0\\n' | lease_server 2 16 16 16 16 16\n";
 
@@ -90,15 +90,5 @@ pub fn write_page<K: Sink>(sink: &mut K, page: Page) -> u64
     match write_all(sink, text_of(page).as_bytes()) {
         Ok(()) => status::DONE,
         Err(_) => status::WRITE,
-    }
-}
-
-/// Returns why the program ended with this status, or None if it answered each line.
-pub fn cause_of(status: u64) -> Option<&'static str> {
-    match status {
-        status::DONE => None,
-        status::READ => Some("standard input can't be read"),
-        status::WRITE => Some("standard output can't be written"),
-        _ => Some("out of memory or threads"),
     }
 }

@@ -1,5 +1,5 @@
 // The refusals of the lines that are no request.
-ghost use Rattle.std.specs.Prelude.{◌≡◌, ◌++◌, ◌∷◌, [], true, IfOk, OnOk, OnErr, None};
+ghost use Rattle.std.specs.Prelude.{◌≡◌, ◌++◌, ◌∷◌, [], true, IfErr, IfOk, OnOk, OnErr, None};
 ghost use Rattle.mono_channel.specs.Delivery.{shares_kept, shares_given};
 ghost use Rattle.mono_channel.specs.Ends.{sent_by, shares_of, IsPair};
 ghost use Rattle.lease_server.specs.Lanes.{answers_given, answers_sent};
@@ -54,7 +54,9 @@ impl Refusals {
         ensures same { IsPair self.new.outlet.sender self.old.outlet.sender }
         ensures given { answers_given self.new ≡ answers_given self.old }
         ensures further { IfOk result (λ sender. IsPair sender self.old.outlet.sender × (sent_by sender ≡ [])) }
-        ensures shares { IfOk result (λ sender. (shares_of self.new.outlet.sender ≡ shares_kept (shares_of self.old.outlet.sender)) × (shares_of sender ≡ shares_given (shares_of self.old.outlet.sender))) }
+        ensures shares { IfOk result (λ sender. (shares_of self.new.outlet.sender ≡ shares_kept (shares_of self.old.outlet.sender))
+            × (shares_of sender ≡ shares_given (shares_of self.old.outlet.sender))) }
+        ensures none { IfErr result (λ e. shares_of self.new.outlet.sender ≡ shares_of self.old.outlet.sender) }
     {
         self.outlet.try_clone(rt)
     }

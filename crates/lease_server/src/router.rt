@@ -16,16 +16,16 @@ use std::marker::PhantomData;
 impl<S: Source> SharedState for Intake<S> {
     ghost use Rattle.lease_server.specs.Routers.{LeadsOn, itself, on};
 
-    ghost leads = { LeadsOn S.left };
+    ghost leads = { LeadsOn S.left S.faults };
 
     #[inline(always)]
     fn next_owed(&mut self) -> Option<u64> {
         None
     }
 
-    ghost leads_itself = { itself S.left };
+    ghost leads_itself = { itself S.left S.faults };
 
-    ghost leads_on = { on S.left };
+    ghost leads_on = { on S.left S.faults };
 
     ghost lists_some = { λ a p t is. is };
 }
@@ -83,7 +83,7 @@ pub fn run_router<R: Host + Copy, S: Source + Drop>(
     alloc: Global,
     intake: Intake<S>,
 ) -> (u64, Intake<S>)
-    ensures { LeadsOn S.left intake result.1 }
+    ensures { LeadsOn S.left S.faults intake result.1 }
 {
     let Ok(driver) = ThreadDriver::new(alloc, SystemClock::new(rt)) else {
         return (status::MEMORY, intake);

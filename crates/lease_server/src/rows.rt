@@ -1,5 +1,5 @@
-// Examples of what lines ask, and which core gets it.
-ghost use Rattle.lease_server.specs.Examples.{SmallAsks, SmallRoutes, AsksNot, RoutesNot, ManyAsk};
+// Examples of what lines ask, which core gets it, and what serves them in part.
+ghost use Rattle.lease_server.specs.Examples.{SmallAsks, SmallRoutes, AsksNot, RoutesNot, ManyAsk, ServesInPart, ServesNotInPart};
 
 /// Shows what five lines ask. One spells no request, and one has no line feed.
 pub fn small_asks()
@@ -24,4 +24,14 @@ pub fn routes_not()
 /// Shows what a thousand lines ask, and that each of four cores gets about a quarter.
 pub fn many_ask()
     ensures { ManyAsk }
+{}
+
+/// Shows what serves three lines in part: no answer, that of the core alone, or a refusal after it.
+pub fn serves_in_part()
+    ensures { ServesInPart }
+{}
+
+/// Shows that a refusal of the third line does not, if the first was not refused.
+pub fn serves_not_in_part()
+    ensures { ServesNotInPart }
 {}

@@ -1,6 +1,7 @@
 // The lines of the bytes that were read.
 ghost use Rattle.std.specs.Prelude.{◌≡◌, ◌+◌, ◌<◌, ◌≤◌, ◌++◌, ◌↔◌, ℕ, [], true, false, List, length, take, MatchOption, IsTrue, IfOk, OnOk, OnErr, IfSome, IfNone};
 ghost use Rattle.lease_lines.specs.Lines.{Spells, SpellsNone};
+ghost use Rattle.mono_text.specs.Environment.{HasCause};
 ghost use Rattle.lease_server.specs.Blocks.{rest_of, size_of, IsAtEnd};
 ghost use Rattle.lease_server.specs.Routing.{HasNoFeed};
 ghost use Rattle.lease_server.specs.Dispatch.{Answers, Holds, KeepsWays};
@@ -117,6 +118,7 @@ impl Splitter {
         ensures same { self.new.dispatcher ≡ self.old.dispatcher }
         ensures split { HasSplit (S.left source.old) self.old (S.left source.new) self.new }
         ensures end { IfOk result (λ count. count ≡ 0 → IsAtEnd (S.left source.new)) }
+        ensures cause { HasCause (S.faults source.old) (S.faults source.new) result }
         ensures size { size_of self.new.block ≡ size_of self.old.block }
     {
         self.block.read(source)
@@ -134,6 +136,16 @@ impl Splitter {
         }
         self.keep_rest();
         Ok(())
+    }
+
+    /// Returns whether a whole line was not taken.
+    pub fn has_line(&self) -> bool
+        ensures { result ≡ false → HasNoFeed (rest_of self.now.block) }
+    {
+        match self.line_length() {
+            Some(_) => true,
+            None => false,
+        }
     }
 
     // Returns whether a line has begun.

@@ -1,10 +1,10 @@
 // The writing of the replies of all cores.
-ghost use Rattle.std.specs.Prelude.{◌≡◌, true, false};
+ghost use Rattle.std.specs.Prelude.{◌≡◌, ◌⊎◌, true, false};
 ghost use Rattle.lease_server.specs.Answers.{answer_lines};
 ghost use Rattle.lease_server.specs.Texts.{said_by};
-ghost use Rattle.lease_server.specs.Printers.{WritesIf, Leads, HasWrittenTexts};
+ghost use Rattle.lease_server.specs.Printers.{FaultsIf, WritesIf, Leads, HasWrittenTexts};
 
-use crate::status::{self, worse};
+use crate::status;
 use crate::texts::Text;
 use mono_channel::Receiver;
 use mono_rt::{
@@ -29,16 +29,16 @@ pub struct Printer<K> {
 impl<K: Sink> SharedState for Printer<K> {
     ghost use Rattle.lease_server.specs.Printers.{leads_itself, leads_on};
 
-    ghost leads = { Leads K.written };
+    ghost leads = { Leads K.written K.faults };
 
     #[inline(always)]
     fn next_owed(&mut self) -> Option<u64> {
         None
     }
 
-    ghost leads_itself = { leads_itself K.written };
+    ghost leads_itself = { leads_itself K.written K.faults };
 
-    ghost leads_on = { leads_on K.written };
+    ghost leads_on = { leads_on K.written K.faults };
 
     ghost lists_some = { λ a p t is. is };
 }
@@ -49,13 +49,14 @@ impl<K: Sink> Printer<K> {
         requires { self.old.has_failed ≡ false }
         ensures texts { self.new.texts ≡ self.old.texts }
         ensures written { WritesIf self.new.has_failed (K.written self.old.sink) (K.written self.new.sink) (answer_lines (said_by text.now)) }
+        ensures faults { FaultsIf self.new.has_failed (K.faults self.old.sink) (K.faults self.new.sink) }
     {
         self.has_failed = write_all(&mut self.sink, text.bytes()).is_err();
     }
 
     // Receives a text and writes it. Returns a status if it is done: no text will come, or a failure.
     fn take<R: Host>(&mut self, rt: &R, waker: &RemoteWaker<UnparkHandle>) -> Poll<Option<u64>>
-        ensures { Leads K.written self.old self.new }
+        ensures { Leads K.written K.faults self.old self.new }
     {
         if self.has_failed {
             return Poll::Ready(Some(status::WRITE));
@@ -73,7 +74,7 @@ impl<K: Sink> Printer<K> {
 
     /// Writes each text that comes, until it has to wait or is done. Returns a status.
     pub fn go_on<R: Host>(&mut self, rt: &R, waker: &RemoteWaker<UnparkHandle>) -> Poll<u64>
-        ensures { Leads K.written self.old self.new }
+        ensures { Leads K.written K.faults self.old self.new }
     {
         for _ in 0..u64::MAX {
             match self.take(rt, waker) {
@@ -85,14 +86,17 @@ impl<K: Sink> Printer<K> {
         Poll::Pending
     }
 
-    // Returns the status of a printer that is done: a failed write, or `DONE`.
-    fn status(&self) -> u64
-        ensures { result ≡ 0 → self.now.has_failed ≡ false }
+    // Returns the status of a printer whose task has ended with this status: a failed write, `DONE`, or out of memory.
+    fn status(&self, ended: u64) -> u64
+        ensures failed { self.now.has_failed ≡ true → result ≡ 5 }
+        ensures going { self.now.has_failed ≡ false → (result ≡ 0) ⊎ (result ≡ 6) }
     {
         if self.has_failed {
             status::WRITE
-        } else {
+        } else if ended == status::DONE {
             status::DONE
+        } else {
+            status::MEMORY
         }
     }
 }
@@ -147,7 +151,7 @@ fn run_writer<R: Host + Copy, K: Sink + Drop>(
     alloc: Global,
     printer: Printer<K>,
 ) -> (u64, Printer<K>)
-    ensures { Leads K.written printer result.1 }
+    ensures { Leads K.written K.faults printer result.1 }
 {
     let Ok(driver) = ThreadDriver::new(alloc, SystemClock::new(rt)) else {
         return (status::MEMORY, printer);
@@ -184,21 +188,21 @@ pub struct Writes<K> {
 }
 
 impl<K: Sink> Promise<Wrote<K>> for Writes<K> {
-    ghost kept_by = { λ p wrote. HasWrittenTexts K.written p.texts.value p.sink.value wrote };
+    ghost kept_by = { λ p wrote. HasWrittenTexts K.written K.faults p.texts.value p.sink.value wrote };
 }
 
 /// Writes each text that comes, on a runtime of this thread, until all senders are closed. Closes its end, and hands it
 /// back with the sink.
 ///
 /// If the status is `DONE`, the bytes of all texts that were received were written, in order. In each case a beginning
-/// of them was written.
+/// of them was written. The status is `WRITE` if and only if a write failed (`SaysWritten`).
 pub fn write_texts<R: Host + Copy, K: Sink + Drop>(
     rt: R,
     alloc: Global,
     texts: Receiver<Text, UnparkHandle>,
     sink: K,
 ) -> Wrote<K>
-    ensures { HasWrittenTexts K.written texts sink result }
+    ensures { HasWrittenTexts K.written K.faults texts sink result }
 {
     let printer = Printer {
         texts,
@@ -206,7 +210,7 @@ pub fn write_texts<R: Host + Copy, K: Sink + Drop>(
         has_failed: false,
     };
     let (ended, printer) = run_writer(rt, alloc, printer);
-    let status = worse(printer.status(), ended);
+    let status = printer.status(ended);
     let Printer {
         mut texts,
         sink,

@@ -10,7 +10,7 @@ returns-then-has_ended-clause-done g c = λ e text rest f is.
     let at = c.loop.self in
     let mid = record at { splitter = record at.splitter { dispatcher = c.flush.new.self } } in
     let led : Leads left c.args.self.now mid = leads_on left c.args.self.now at mid c.loop.invariant.led (led_flush left at mid refl refl refl refl c.flush.ensures.holds) in
-    done left c.args.self.now mid (c.has_ended.ensures.ended c.if-has_ended.true) led (c.in_ok-flush.ensures.sent c.if-not-branch.false) text rest f is
+    done left c.args.self.now mid (c.is_over.ensures c.if-not-is_over.false) led (c.in_ok-flush.ensures.sent c.if-not-branch.false) text rest f is
 
 pub returns-in_err-read-clause-led : goal.returns-in_err-read-clause-led
 returns-in_err-read-clause-led g c =
@@ -29,10 +29,11 @@ loop-preserved g c =
     record {
       ways = keeps_on c.args.self.now.splitter.dispatcher c.flush.new.self c.read.new.self.splitter.dispatcher (keeps_on c.args.self.now.splitter.dispatcher at.splitter.dispatcher c.flush.new.self c.loop.invariant.ways c.flush.ensures.ways) c.read.ensures.ways;
       led = leads_on left c.args.self.now mid c.read.new.self led c.read.ensures.led;
+      faults = λ before f. c.read.ensures.faults before (c.loop.invariant.faults before f);
     }
 
 pub loop-init : goal.loop-init
-loop-init g c = record { ways = keeps_itself c.args.self.now.splitter.dispatcher; led = leads_itself g.S.Source.left c.args.self.now }
+loop-init g c = record { ways = keeps_itself c.args.self.now.splitter.dispatcher; led = leads_itself g.S.Source.left c.args.self.now; faults = λ before f. f }
 
 pub returns-in_err-flush-clause-ways : goal.returns-in_err-flush-clause-ways
 returns-in_err-flush-clause-ways g c = keeps_on c.args.self.now.splitter.dispatcher c.loop.self.splitter.dispatcher c.flush.new.self c.loop.invariant.ways c.flush.ensures.ways

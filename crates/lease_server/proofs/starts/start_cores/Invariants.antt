@@ -3,7 +3,7 @@ use Rattle.mono_channel.specs.Delivery.{all_shares}
 use Rattle.mono_channel.specs.Ends.{shares_of, IsPair}
 use Rattle.lease_server.specs.Dispatch.{Holds}
 use Rattle.lease_server.specs.Threads.{ArePaired, AreNumbered}
-use Rattle.lease_server.proofs.servers.start_cores.Given as goal
+use Rattle.lease_server.proofs.starts.start_cores.Given as goal
 
 abbrev pub invariant-loop-number : goal.invariant-loop-number
 invariant-loop-number g l = record {

@@ -1,0 +1,5 @@
+use Rattle.lease_server.proofs.PartLemmas as row
+use Rattle.lease_server.proofs.rows.serves_in_part.Goals as goal
+
+pub returns : goal.returns
+returns c = row.serves_in_part
