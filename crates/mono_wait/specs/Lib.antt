@@ -44,3 +44,4 @@ pub mod Keepers
 pub mod Takes
 pub mod KeyedTasks
 pub mod Performs
+pub mod AskedTasks

@@ -22,35 +22,35 @@ use Rattle.mono_sync.specs.declared.notices.Notifying.TheVariants as notifying
 use Rattle.mono_sync.specs.declared.watch.Watch.{Watch}
 use Rattle.mono_sync.specs.declared.oneshot.Oneshot.{Oneshot}
 
-false-true : false ≡ true → ⊥
+pub false-true : false ≡ true → ⊥
 false-true e = cc
 
-none-some : (t : ℕ) → None ≡ Some t → ⊥
+pub none-some : (t : ℕ) → None ≡ Some t → ⊥
 none-some t e = cc
 
-same_some : (i j : ℕ) → Some i ≡ Some j → i ≡ j
+pub same_some : (i j : ℕ) → Some i ≡ Some j → i ≡ j
 same_some i j e = cc
 
-same_number : (u t : ℕ) → (u == t) ≡ true → u ≡ t
+pub same_number : (u t : ℕ) → (u == t) ≡ true → u ≡ t
 same_number u t is = elim (eqb_tells u t) [ inl here ↦ here.1 | inr apart ↦ absurd (false-true (sym apart.0 ∙ is)) ]
 
-or_right : (a b : Bool) → b ≡ true → (a || b) ≡ true
+pub or_right : (a b : Bool) → b ≡ true → (a || b) ≡ true
 or_right true b is = refl
 or_right false b is = is
 
-or_left : (a b : Bool) → a ≡ true → (a || b) ≡ true
+pub or_left : (a b : Bool) → a ≡ true → (a || b) ≡ true
 or_left a b is = ap (λ x. x || b) is
 
-or_either : (a b x y : Bool) → (a ≡ true → x ≡ true) → (b ≡ true → y ≡ true) → (a || b) ≡ true → (x || y) ≡ true
+pub or_either : (a b x y : Bool) → (a ≡ true → x ≡ true) → (b ≡ true → y ≡ true) → (a || b) ≡ true → (x || y) ≡ true
 or_either true b x y f g is = ap (λ z. z || y) (f refl)
 or_either false b true y f g is = refl
 or_either false b false y f g is = g is
 
-and_right : (a b : Bool) → (a && b) ≡ true → b ≡ true
+pub and_right : (a b : Bool) → (a && b) ≡ true → b ≡ true
 and_right true b is = is
 and_right false b is = absurd (false-true is)
 
-both : (a b : Bool) → a ≡ true → b ≡ true → (a && b) ≡ true
+pub both : (a b : Bool) → a ≡ true → b ≡ true → (a && b) ≡ true
 both a b p q = ap (λ x. x && b) p ∙ q
 
 -- who waits at a ticket waits

@@ -1,6 +1,8 @@
 //! The sources for which a future waits after a pending poll, and that its task is registered there.
 #![tactic(auto)]
 
+mod asked_peers;
+mod asked_tickets;
 mod at_once;
 mod boxes;
 mod by_task;
