@@ -16,6 +16,8 @@ mod gaps;
 #[cfg(test)]
 mod lanes;
 #[cfg(test)]
+mod owned;
+#[cfg(test)]
 mod receives;
 #[cfg(test)]
 mod seats;

@@ -1,10 +1,12 @@
-//! Tests of channels, semaphores, notices and watched values, over their public calls.
+//! Tests of channels, semaphores, notices, watched values, locks, barriers, cells and broadcasts, over their public calls.
 #![tactic(auto)]
 
 #[cfg(test)]
 mod channels;
 #[cfg(test)]
 mod forms;
+#[cfg(test)]
+mod locks;
 #[cfg(test)]
 mod many;
 #[cfg(test)]
@@ -18,6 +20,10 @@ mod requests;
 #[cfg(test)]
 mod semaphores;
 #[cfg(test)]
+mod singles;
+#[cfg(test)]
 mod tables;
+#[cfg(test)]
+mod turns;
 #[cfg(test)]
 mod watches;

@@ -1,0 +1,6 @@
+// Locks, barriers, cells that are set once, and broadcasts.
+mod barriers;
+mod broadcasts;
+mod cells;
+mod memory;
+mod mutexes;
