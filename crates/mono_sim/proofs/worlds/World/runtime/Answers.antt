@@ -1,0 +1,8 @@
+use Rattle.std.proofs.Common.{◌≡◌, get_or, rules}
+use Rattle.mono_sim.proofs.WorldLemmas.{found_at}
+use Rattle.mono_sim.proofs.worlds.World.runtime.Goals as goal
+
+pub returns : goal.returns
+returns g c =
+    let is : c.index.result.now ≡ get_or c.args.self.now.nodes.items c.args.number c.index.result.now = search rules in
+    (c.index.result.now, (found_at c.args.self.now.nodes.items c.args.number c.index.result.now c.requires is, search rules))
