@@ -3,17 +3,19 @@
 #   make try         the example by the program as it stands, unproved, in about two processor minutes; the program is
 #                    kept as bin/monoio-unproved
 #   make run         proves and builds the program where that is not done, and replays the example
-#   make build       proves and builds the program, and leaves it as bin/monoio; what it proves, the gate does not prove
-#                    again on this machine
+#   make build       proves and builds the program, and leaves it as bin/monoio; if the kit keeps proofs, the gate proves
+#                    none of these crates again on this machine
 #   make test        the gate: every proof, mutant, test and program; it ends in `rt ci`
 #   make examples    builds the program, and compares each example's reports, causes and exit status with those stored
 #                    beside it, and the manual page with --help; it fails if a crate use_* or example_* never gives
 #                    up something that it holds
 #   make pages       compiles the first Rust example of each page, and the programs that are kept as text in tools/, unproved;
-#                    the programs have to print the stored lines, and the examples what their pages say
+#                    the programs have to print the stored lines, and the examples what their pages say; an example that
+#                    names a file has to be in it
 #   make soak        random inputs for a minute (SECONDS=n), each report checked by an independent machine; their journals
-#                    too; then each allocation, read and write fails in turn, scripts run with workers, and each library
-#                    call that leaves its object as it was is refused memory
+#                    too; then each allocation, read and write fails in turn, scripts run with workers, sleeps in
+#                    far slots take their bounded time, and each library call that leaves its object as it was is
+#                    refused memory
 #   make soak-threads  runs larger tests of threads once (1,000,000 parks, 32 workers, 64 threads at an inbox), and repeats
 #                    the others for a minute (SECONDS=n), some of them under valgrind's helgrind
 #   make year        simulates a year of a lease server (EVENTS=100000000): its memory has to stay flat, and its answers
@@ -56,7 +58,8 @@ has-rustc:
 	@command -v rustc > /dev/null || { echo 'rustc is missing: it builds the plain Rust programs of tools/bench'; exit 1; }
 
 test: has-rt
-	@! command -v python3 > /dev/null || { python3 tools/sections.py && python3 tools/calls.py --check && python3 tools/cookbook.py --check; }
+	@! command -v python3 > /dev/null || { python3 tools/sections.py && python3 tools/recipes.py && \
+	    python3 tools/calls.py --check && python3 tools/cookbook.py --check; }
 	rt ci
 
 examples: build
@@ -82,6 +85,7 @@ soak: build
 	python3 tools/soak/soak.py bin/monoio $(SECONDS)
 	python3 tools/soak/faults.py bin/monoio
 	python3 tools/soak/scripts.py bin/monoio
+	python3 tools/soak/far.py bin/monoio
 	@python3 tools/build.py test_out_of_memory bin/refused
 	python3 tools/soak/refused.py bin/refused
 

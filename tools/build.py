@@ -6,9 +6,9 @@ usage: tools/build.py CRATE [PROGRAM]
        tools/build.py --lay FOLDER CRATE
 
 The crate and those below it are copied to a folder of their own. There `rt ci` proves them side by side, each once its
-libraries are proved, and compares the program's stored run. It keeps what it proves on this machine: neither CI nor the
-next build proves a crate again whose files are the same. No mutant is tried. The program is kept as PROGRAM, or else as
-bin/CRATE, and what rt prints as bin/CRATE.log. A program that was built from the same files by the same kit stays.
+libraries are proved, and compares the program's stored run. If the kit keeps proofs, neither CI nor the next build proves a
+crate again whose files are the same. No mutant is tried. The program is kept as PROGRAM, or else as bin/CRATE, and what rt
+prints as bin/CRATE.log. A program that was built from the same files by the same kit stays.
 
 With --try nothing is proved or kept, but the stored run is compared. With --lay the copy is made in the new FOLDER, and
 stays: there rt works on a crate that is kept as text as on any other.

@@ -1,9 +1,10 @@
 #!/usr/bin/env python3
 """Runs the gate from nothing and prints the processor seconds of each crate, as a table.
 
-usage: tools/gate_times.py [RT CI'S ARGUMENTS ..]     (without arguments: --anew)
+usage: tools/gate_times.py [RT CI'S ARGUMENTS ..]
 
-What the gate prints is kept in bin/gate.log.
+Without arguments the gate takes nothing that an earlier run has kept: if the kit's `rt ci` has a word --anew, it gets
+that; the others keep nothing. What the gate prints is kept in bin/gate.log.
 
 The descendants of this run of the gate are looked at twice a second, and no other process: what a check has used when
 it is last seen counts for its crate. The sum of all is what the system counts for the run when it has ended; what no
@@ -86,6 +87,12 @@ def look(root, used, kinds):
             used[key] = max(used.get(key, 0), seconds[pid])
 
 
+def arguments_from_nothing():
+    """The arguments with which the kit's `rt ci` proves all anew: none if it always does."""
+    said = subprocess.run(["rt", "help"], stdout=subprocess.PIPE, stderr=subprocess.STDOUT, text=True).stdout
+    return ["--anew"] if "--anew" in said else []
+
+
 def run_gate(arguments):
     """Runs the gate; gives what each check used, the last line, the status, and the processor seconds of the whole."""
     used, kinds = {}, {}
@@ -143,7 +150,7 @@ def print_table(used, whole):
 def main():
     below.need_rt()
     begin = time.time()
-    used, last, status, whole = run_gate(sys.argv[1:] or ["--anew"])
+    used, last, status, whole = run_gate(sys.argv[1:] or arguments_from_nothing())
     print_table(used, whole)
     print(f"{(time.time() - begin) / 60:.1f} minutes by the clock on {os.cpu_count()} processors; {last}")
     return status

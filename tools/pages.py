@@ -3,12 +3,12 @@
 
 usage: tools/pages.py
 
-A page is README.md, a file of docs, or a crate's README. All examples become modules of one program in a folder of its
-own, which names each crate that an example names. If the text behind an example begins with "`CALL` returns `PATTERN`",
-the program makes that call, with the host `rt` and its allocator `alloc`, and matches what it returns. An example with a
-`main` has to print the line of "prints `LINE`". An example that begins with `// crates/` and a file is a part of that
-file and is compared with it instead; the crate's stored run has to have the line. The status is that of rt, or 1 if a
-page says something else.
+A page is README.md, a file of docs, or a crate's README. An example that begins with `//` and a file of crates/ has parts of
+that file, but for its imports; if the text behind it says "prints `LINE`", the crate's stored run has that line. The first
+examples of the pages that differ from their file, or name none, become modules of one program in a folder of its own,
+which names each crate that an example names. If the text behind an example begins with "`CALL` returns `PATTERN`", the
+program makes that call, with the host `rt` and its allocator `alloc`, and matches what it returns. One example may have a
+`main`, and has to print the line of "prints `LINE`". The status is that of rt, or 1 if a page says something else.
 """
 import glob
 import os
@@ -36,18 +36,28 @@ TELL = """    match {name}::is_as_said(&rt, rt.alloc()) {{
     }}
 """
 MAIN = "fn main(rt: HostRuntime) -> io::Result<()> {\n"
+# The first line of an example that is a part of a file.
+NAMED = re.compile(r"// (?:crates/)?(\w+/src/\S+\.rt)[^\n]*\n")
 
 
-def need_part(page, file, text, line):
-    """Ends the program if the text is no part of the file, or the line that it prints is not stored."""
+def body_of(text):
+    """Returns the lines of a text without white space at their ends, and without imports."""
+    text = re.sub(r"^(ghost )?use [^;]*;\n", "", text, flags=re.S | re.M)
+    return "\n".join(line.strip() for line in text.strip().split("\n"))
+
+
+def is_in_file(page, file, text, line):
+    """Returns whether the text is a part of the file as it stands. Ends the program if it is none without its imports, or
+    if the line that it prints is not stored."""
     with open(file, encoding="utf-8") as source:
-        if text not in source.read():
-            sys.exit(f"{page}: its first example is not in {file}")
-    if line is None:
-        return
-    with open(os.path.join(*file.split("/")[:2], "stdout"), encoding="utf-8") as stored:
-        if line not in stored.read().splitlines():
-            sys.exit(f"{page}: no stored run prints `{line}`")
+        whole = source.read()
+    if any(part not in body_of(whole) for part in body_of(text).split("\n\n")):
+        sys.exit(f"{page}: an example is not in {file}")
+    if line is not None:
+        with open(os.path.join(*file.split("/")[:2], "stdout"), encoding="utf-8") as stored:
+            if line not in stored.read().splitlines():
+                sys.exit(f"{page}: no stored run prints `{line}`")
+    return text in whole
 
 
 def said(pattern, behind):
@@ -56,25 +66,24 @@ def said(pattern, behind):
     return found and found.groups()
 
 
-def examples():
-    """Returns the first example of each page that has one: its module's name, its text, its call with the pattern, its line."""
-    pages = [*glob.glob("README.md"), *sorted(glob.glob("docs/*.md")), *sorted(glob.glob("crates/*/README.md"))]
-    found = []
-    for page in pages:
-        with open(page, encoding="utf-8") as file:
-            text = file.read()
-        block = re.search(r"^```rust\n(.*?)^```", text, re.S | re.M)
-        if not block:
-            continue
+def examples_of(page):
+    """Yields each example of a page that is to be compiled: its module's name, its text, its call with the pattern, its line."""
+    with open(page, encoding="utf-8") as file:
+        text = file.read()
+    for number, block in enumerate(re.finditer(r"^```rust\n(.*?)^```", text, re.S | re.M)):
         behind = text[block.end():]
         (line,) = said(r"prints `([^`]+)`", behind) or (None,)
-        excerpt = re.match(r"// (crates/\S+)\n", block.group(1))
-        if excerpt:
-            need_part(page, excerpt.group(1), block.group(1)[excerpt.end():], line)
-        else:
+        named = NAMED.match(block[1])
+        is_shown = named and is_in_file(page, f"crates/{named[1]}", block[1][named.end():], line)
+        if number == 0 and not is_shown:
             name = page.removesuffix(".md").removesuffix("/README").removeprefix("crates/").replace("/", "_")
-            found.append(("page_" + name.lower(), block.group(1), said(r"^`([^`]+)` returns `([^`]+)`", behind), line))
-    return found
+            yield "page_" + name.lower(), block[1], said(r"^`([^`]+)` returns `([^`]+)`", behind), line
+
+
+def examples():
+    """Returns the examples of all pages that are to be compiled."""
+    pages = [*glob.glob("README.md"), *sorted(glob.glob("docs/*.md")), *sorted(glob.glob("crates/*/README.md"))]
+    return [example for page in pages for example in examples_of(page)]
 
 
 def lines_of_crates(names):
@@ -132,7 +141,7 @@ def main():
     if printed != owed:
         print("\n".join(f"not as its page says: {line}" for line in printed if line not in owed) or "lines are missing")
         return 1
-    print(f"{len(found)} pages: the first example of each compiles as it stands, and {len(owed)} do what their pages say")
+    print(f"{len(found)} examples compile as they stand, {len(owed)} of them do as their pages say, and the others are in their files")
     return 0
 
 

@@ -16,8 +16,8 @@ is tried by a check of these functions. One check takes several edits of differe
 calls one that is refused in the same check is tried again. Any other edit is tried by a check of its crate. First the
 functions are checked as they are.
 
-The libraries below a crate are taken from FOLDER/NAME.rlib, or as `rt ci` proves them or has kept them on this
-machine. N checks run at a time (2), each when memory is free. With --no-tests, what the prover lets through is
+The libraries below the crates are taken from FOLDER/NAME.rlib, or else one run of `rt ci` proves them first. N checks run
+at a time (2), each when memory is free. With --no-tests, what the prover lets through is
 not tested.
 
 The verdicts are kept in verdicts.txt beside the mutants, a line for each mutant: its name, the kind of verdict, and
@@ -317,7 +317,7 @@ def try_crate(rtlib, copy, crate, options):
     planted = os.path.join(folder, "planted")
     names = sorted(name for name in os.listdir(planted) if name.endswith(".edit"))
     edits = [Edit(folder, os.path.join(planted, name)) for name in names]
-    trial = Trial(prover.Prover(rtlib, copy, crate, options.built), options.jobs)
+    trial = Trial(prover.Prover(rtlib, copy, crate), options.jobs)
     for edit in edits:
         if edit.bad:
             trial.say(edit, "bad edit", edit.bad)
@@ -405,7 +405,9 @@ def main():
     with tempfile.TemporaryDirectory(prefix="planted-") as folder:
         copy = copy_of_the_repository(folder)
         rtlib = prover.kit()
-        for crate in crates(options.crates):
+        names = crates(options.crates)
+        prover.take_libraries(rtlib, copy, names, options.built)
+        for crate in names:
             found = try_crate(rtlib, copy, crate, options)
             all_found += found
             print(f"{crate}: {counts(found)}", flush=True)

@@ -66,27 +66,37 @@ def is_taken(library, built):
     return True
 
 
-class Prover:
-    """Checks one crate of a copy of the repository. What is checked once is kept for the next checks of a worker."""
+def crate_of(rtlib, copy, name):
+    """A crate of a copy of the repository."""
+    return rtlib.Crate(os.path.join(copy, "crates", name), copy, {})
 
-    def __init__(self, rtlib, copy, name, built):
+
+def take_libraries(rtlib, copy, names, built):
+    """Takes the libraries below these crates: as they are built in the folder `built`, or as one run of `rt ci` proves them."""
+    below_them = {it.name: it for name in names for it in crate_of(rtlib, copy, name).below()}
+    lacking = [it for it in below_them.values() if not is_taken(it, built)]
+    if not lacking:
+        return
+    folder = tempfile.mkdtemp(prefix="libraries-", dir=os.path.dirname(copy))
+    log = os.path.join(below.TOP, "bin", "planted.log")
+    os.makedirs(os.path.dirname(log), exist_ok=True)
+    if progress.run_ci(folder, layout.lay_closure([it.name for it in lacking], folder), log) != 0:
+        sys.exit("a library below the crates is not proved")
+    for library in lacking:
+        take(library, os.path.join(folder, "crates", library.name, "out", "rlib"))
+
+
+class Prover:
+    """Checks one crate of a copy of the repository, over libraries that were taken.
+
+    What is checked once is kept for the next checks of a worker.
+    """
+
+    def __init__(self, rtlib, copy, name):
         self.rtlib = rtlib
-        self.crate = rtlib.Crate(os.path.join(copy, "crates", name), copy, {})
+        self.crate = crate_of(rtlib, copy, name)
         self.kept = tempfile.mkdtemp(prefix="kept-", dir=os.path.dirname(copy))
         self.memory = threading.Lock()
-        lacking = [library for library in self.crate.below() if not is_taken(library, built)]
-        if lacking:
-            self.prove(lacking)
-
-    def prove(self, libraries):
-        """Takes libraries that `rt ci` proves in a folder of their own, or that it has kept from an earlier proof."""
-        folder = tempfile.mkdtemp(prefix="libraries-", dir=os.path.dirname(self.kept))
-        log = os.path.join(below.TOP, "bin", "planted.log")
-        os.makedirs(os.path.dirname(log), exist_ok=True)
-        if progress.run_ci(folder, layout.lay_closure([it.name for it in libraries], folder), log) != 0:
-            sys.exit(f"a library below {self.crate.name} is not proved")
-        for library in libraries:
-            take(library, os.path.join(folder, "crates", library.name, "out", "rlib"))
 
     def check(self, worker, texts, only, holes=True):
         """Checks the crate, with its tests, with these texts in place of its own: all of it, or the named functions alone.

@@ -6,6 +6,8 @@ usage: tools/view.py [TITLE] < JOURNAL > PAGE.html
 The input is a journal of `run` or `Runtime::journal`, also with the list of tasks that `run` writes after status 8, that
 list alone, or replies of the lease server. The page shows a lane for each task or core, and says for each task at each
 line why it waits. Its key `?` shows the legend and the other keys.
+
+The page takes no library: it draws on one canvas, since libraries that make an element for each mark are slow at 100,000.
 """
 import bisect
 import json
