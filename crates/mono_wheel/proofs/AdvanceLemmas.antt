@@ -12,6 +12,7 @@ use Rattle.mono_wheel.proofs.HoldingLemmas.{list-same, list-other}
 use Rattle.mono_wheel.proofs.DueLemmas.{stands-pending}
 use Rattle.mono_wheel.proofs.SearchLemmas.{stands-timed, ahead-in}
 use Rattle.mono_wheel.proofs.RankLemmas.{start-place, place-start}
+use Rattle.mono_wheel.specs.Counts.{Moves}
 
 -- while the clock has not come to the start of its slot a tick stays in it
 pub place-same : (elapsed later tick : ℕ) → elapsed < tick → elapsed ≤ later → later < start top_level elapsed tick → place_in later tick ≡ place_in elapsed tick
@@ -91,7 +92,7 @@ module _ (elapsed later : ℕ) (entries : List Entry) (links : Lists) (h : Held 
   after-same key None is = refl
   after-same key (Some timed) is = ap Some (sym (moved-stays elapsed later timed (before key timed is (ahead key timed is).0)))
 
-  pub later-advanced : {moves : ℕ} (v : Wheel) → (let w : Wheel = record { elapsed = elapsed; entries = map timed_of entries; reserved = links.nodes; lines = links.lists; moves = moves } in w ≡ v) →
+  pub later-advanced : {moves : Moves} (v : Wheel) → (let w : Wheel = record { elapsed = elapsed; entries = map timed_of entries; reserved = links.nodes; lines = links.lists; moves = moves } in w ≡ v) →
       Advanced v (record { elapsed = later; entries = map timed_of entries; reserved = links.nodes; lines = links.lists; moves = moves })
   later-advanced {moves} v seen = subst (λ u. Advanced u (record { elapsed = later; entries = map timed_of entries; reserved = links.nodes; lines = links.lists; moves = moves })) seen (record {
     fits = h.fits;
@@ -101,7 +102,7 @@ module _ (elapsed later : ℕ) (entries : List Entry) (links : Lists) (h : Held 
     reserved = refl;
   })
 
-  pub later-passed : {moves : ℕ} (v : Wheel) → (let w : Wheel = record { elapsed = elapsed; entries = map timed_of entries; reserved = links.nodes; lines = links.lists; moves = moves } in w ≡ v) →
+  pub later-passed : {moves : Moves} (v : Wheel) → (let w : Wheel = record { elapsed = elapsed; entries = map timed_of entries; reserved = links.nodes; lines = links.lists; moves = moves } in w ≡ v) →
       (key : ℕ) (timed : Timed) → timed_at v key ≡ Some timed → later < timed.tick
   later-passed v seen = subst (λ u. (key : ℕ) (timed : Timed) → timed_at u key ≡ Some timed → later < timed.tick) seen (λ key timed is.
       let a = (ahead key timed is).0 in let b = (ahead key timed is).1 in
@@ -249,7 +250,7 @@ module _ (elapsed begin list : ℕ) (entries : List Entry) (links taken : Lists)
             ]
           ]
 
-      precedes-after : {moves : ℕ} (a b line : ℕ) → StandsBehind (list_at links line) a b → timed_in entries a ≡ timed_in entries b →
+      precedes-after : {moves : Moves} (a b line : ℕ) → StandsBehind (list_at links line) a b → timed_in entries a ≡ timed_in entries b →
           (let w : Wheel = record { elapsed = to; entries = map timed_of entries2; reserved = links2.nodes; lines = links2.lists; moves = moves } in Precedes w a b)
       precedes-after a b line s same =
           let t = behind-after a b line s same in
@@ -259,7 +260,7 @@ module _ (elapsed begin list : ℕ) (entries : List Entry) (links taken : Lists)
             same = ticks-after a (timed_in entries a) refl ∙ ap (timed_after elapsed to) same ∙ sym (ticks-after b (timed_in entries b) refl);
           }
 
-      pub slot-advanced : {moves moves2 : ℕ} (v : Wheel) → (let w : Wheel = record { elapsed = elapsed; entries = map timed_of entries; reserved = links.nodes; lines = links.lists; moves = moves } in w ≡ v) →
+      pub slot-advanced : {moves moves2 : Moves} (v : Wheel) → (let w : Wheel = record { elapsed = elapsed; entries = map timed_of entries; reserved = links.nodes; lines = links.lists; moves = moves } in w ≡ v) →
           Advanced v (record { elapsed = to; entries = map timed_of entries2; reserved = links2.nodes; lines = links2.lists; moves = moves2 })
       slot-advanced {moves} {moves2} v seen = subst (λ u. Advanced u (record { elapsed = to; entries = map timed_of entries2; reserved = links2.nodes; lines = links2.lists; moves = moves2 })) seen (record {
         fits = h.fits;

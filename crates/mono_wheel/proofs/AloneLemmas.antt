@@ -15,6 +15,7 @@ use Rattle.mono_wheel.proofs.OrderLemmas.{behind-upper}
 use Rattle.mono_wheel.proofs.HoldingLemmas.{held-removed, keeps-removed}
 use Rattle.mono_wheel.proofs.AdvanceLemmas.{no-slots, moved-stays, in-slot, slot-in, in-place, slot-waits, past-slot, begin-above, list-below, later-held}
 use Rattle.mono_wheel.proofs.CreditLemmas.{credit-entry, credit-later, takes-taken, takes-now}
+use Rattle.mono_wheel.specs.Counts.{Moves, no_moves}
 
 none-behind : (key other : ℕ) → StandsBehind (key ∷ []) other key → ⊥
 none-behind key other (inl h) = h.1
@@ -111,7 +112,7 @@ module _ (elapsed begin list key : ℕ) (entries : List Entry) (links new : List
             omega (arith, l, b, s, same)
       ]
 
-      pub alone-came : {moves moves2 : ℕ} (v : Wheel) (now : ℕ) → (let w : Wheel = record { elapsed = elapsed; entries = map timed_of entries; reserved = links.nodes; lines = links.lists; moves = moves } in w ≡ v) → x.tick ≤ now →
+      pub alone-came : {moves moves2 : Moves} (v : Wheel) (now : ℕ) → (let w : Wheel = record { elapsed = elapsed; entries = map timed_of entries; reserved = links.nodes; lines = links.lists; moves = moves } in w ≡ v) → x.tick ≤ now →
           CameOut v (record { elapsed = x.tick; entries = map timed_of (set entries key out); reserved = new.nodes; lines = new.lists; moves = moves2 }) now key
       alone-came {moves} {moves2} v now seen by = subst (λ u. CameOut u (record { elapsed = x.tick; entries = map timed_of (set entries key out); reserved = new.nodes; lines = new.lists; moves = moves2 }) now key) seen (record {
         due = (record { tick = x.tick; registered = x.registered }, was, refl, by);
@@ -130,7 +131,7 @@ module _ (elapsed begin list key : ℕ) (entries : List Entry) (links new : List
       pub alone-credit : (count before next : ℕ) → count + takes x.tick (at_tick x.tick) ≡ takes begin (at_tick x.tick) → next ≡ before + count + 1 →
           next + credit_of x.tick (map timed_of (set entries key out)) ≡ before + credit_of elapsed (map timed_of entries)
       alone-credit count before next counted stepped =
-          let follows = credit-entry {moves = 0} elapsed entries links.nodes links.nodes links.lists links.lists _ key out refl alone-below in
+          let follows = credit-entry {moves = no_moves} elapsed entries links.nodes links.nodes links.lists links.lists _ key out refl alone-below in
           let here : takes elapsed (timed_in entries key) ≡ takes begin (at_tick x.tick) + 1 = ap (takes elapsed) was ∙ takes-taken elapsed begin record { tick = x.tick; registered = x.registered } ahead.0 ahead.1 begins in
           let then_ : takes elapsed (timed_in (set entries key out) key) ≡ 0 = ap (takes elapsed) (timed-here entries key out alone-below ∙ none_of out empty) in
           let same = credit-later elapsed x.tick (set entries key out) later held-out.fits left-none left-far in

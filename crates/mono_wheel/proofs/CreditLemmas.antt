@@ -15,6 +15,7 @@ use Rattle.mono_wheel.proofs.DueLemmas.{due-stands, due-below, stands-pending}
 use Rattle.mono_wheel.proofs.RingLemmas.{false-true}
 use Rattle.mono_wheel.proofs.StartLemmas.{start-le, start-same, takes-once, takes-bound, takes-later, eqb-no, ltb_tells}
 use Rattle.mono_wheel.proofs.AdvanceLemmas.{no-slots, moved-stays, moved-anew, ticks-after, in-slot, slot-in, in-place, begin-above}
+use Rattle.mono_wheel.specs.Counts.{Moves, no_moves}
 
 -- one key has other ticks
 pub credit-set : (elapsed key : ℕ) (os : List (Option Timed)) (o : Option Timed) → key < length os → credit_of elapsed (set os key o) + takes elapsed (get_or os key None) ≡ credit_of elapsed os + takes elapsed o
@@ -237,15 +238,15 @@ due-credit elapsed entries links key front x h is out =
     ap (credit_of elapsed) (map-set timed_of entries key x) ∙ omega (arith, r, zero_here, zero_then)
 
 -- an entry was written
-pub credit-entry : {moves : ℕ} (elapsed : ℕ) (entries : List Entry) (nodes nodes2 : List Bool) (lines lines2 : List (List ℕ)) (v : Wheel) (key : ℕ) (x : Entry) →
+pub credit-entry : {moves : Moves} (elapsed : ℕ) (entries : List Entry) (nodes nodes2 : List Bool) (lines lines2 : List (List ℕ)) (v : Wheel) (key : ℕ) (x : Entry) →
     (let w : Wheel = record { elapsed = elapsed; entries = map timed_of entries; reserved = nodes; lines = lines; moves = moves } in w ≡ v) → key < length entries →
-    CreditFollows v (record { elapsed = elapsed; entries = map timed_of (set entries key x); reserved = nodes2; lines = lines2; moves = 0 }) key
+    CreditFollows v (record { elapsed = elapsed; entries = map timed_of (set entries key x); reserved = nodes2; lines = lines2; moves = no_moves }) key
 credit-entry {moves} elapsed entries nodes nodes2 lines lines2 v key x seen low =
     let below : key < length (map timed_of entries) = let n = length-map entries timed_of in omega (arith, low, n) in
     let r = credit-set elapsed key (map timed_of entries) (timed_of x) below in
     let here = ap (takes elapsed) (timed-here entries key x low) in
     let wrote = ap (credit_of elapsed) (map-set timed_of entries key x) in
-    subst (λ u. CreditFollows u (record { elapsed = elapsed; entries = map timed_of (set entries key x); reserved = nodes2; lines = lines2; moves = 0 }) key) seen (omega (arith, r, here, wrote))
+    subst (λ u. CreditFollows u (record { elapsed = elapsed; entries = map timed_of (set entries key x); reserved = nodes2; lines = lines2; moves = no_moves }) key) seen (omega (arith, r, here, wrote))
 
 -- ---- the raise of the credit by each call
 credit-none : (e : ℕ) (os : List (Option Timed)) → ((k : ℕ) → get_or os k None ≡ None) → credit_of e os ≡ 0

@@ -11,6 +11,7 @@ use Rattle.mono_wheel.proofs.KeyLemmas.{none_of, timed-here, timed-other, entry-
 use Rattle.mono_wheel.proofs.OrderLemmas.{behind-upper, behind-last}
 use Rattle.mono_wheel.proofs.HoldingLemmas.{held-removed, keeps-removed, list-same}
 use Rattle.mono_wheel.specs.Start.{pending_list}
+use Rattle.mono_wheel.specs.Counts.{Moves}
 
 pub stands-one : (elapsed l m : ℕ) (o : Option Timed) → StandsIn elapsed l o → StandsIn elapsed m o → l ≡ m
 stands-one elapsed l m None s t = absurd s
@@ -43,7 +44,7 @@ module _ (elapsed : ℕ) (entries : List Entry) (links : Lists) (key : ℕ) (fro
       let j : IsIn key front = elim (behind-last front key other key b2) [ inl t ↦ behind-upper front other key t | inr t ↦ t.1 ] in
       gone (subst (λ zs. IsIn key zs) (sym (ap (λ w. list_at w pending_list) e ∙ list-same links pending_list (front ++ []) low)) (is_in-front key front [] j))
 
-  pub due-taken : {moves moves2 : ℕ} (new : Lists) (v : Wheel) (x : Entry) → (let w : Wheel = record { elapsed = elapsed; entries = map timed_of entries; reserved = links.nodes; lines = links.lists; moves = moves } in w ≡ v) →
+  pub due-taken : {moves moves2 : Moves} (new : Lists) (v : Wheel) (x : Entry) → (let w : Wheel = record { elapsed = elapsed; entries = map timed_of entries; reserved = links.nodes; lines = links.lists; moves = moves } in w ≡ v) →
       new ≡ with_list links pending_list (without key (list_at links pending_list)) → new ≡ with_list links pending_list (front ++ []) → (IsIn key (list_at new pending_list) → ⊥) → x.tick ≡ 0 →
       DueTaken v (record { elapsed = elapsed; entries = map timed_of (set entries key x); reserved = new.nodes; lines = new.lists; moves = moves2 }) (Some key)
   due-taken {moves} {moves2} new v x seen e parts gone out =

@@ -1,5 +1,5 @@
 -- A key that is due first, and alone in its turn of the top level, comes out at its tick at once.
-use Rattle.std.proofs.Common.{arith, ◌≡◌, ◌≢◌, ℕ, ◌<◌, ◌≤◌, inl, inr, length, List, [], ◌∷◌, map, Option, Some, None, get_or, set, ap, refl, sym, ◌∙◌, subst}
+use Rattle.std.proofs.Common.{arith, ◌≡◌, ◌≢◌, ℕ, ◌+◌, ◌<◌, ◌≤◌, inl, inr, length, List, [], ◌∷◌, map, Option, Some, None, get_or, set, ap, refl, sym, ◌∙◌, subst}
 use Rattle.std.proofs.lemmas.Bool.Decides.{eqb_tells}
 use Rattle.mono_wheel.specs.Start.{above, top_level, slot_count}
 use Rattle.mono_wheel.specs.Lists.{Lists, IsIn, with_list, without, list_at, no_entry}
@@ -16,6 +16,8 @@ use Rattle.mono_wheel.proofs.OrderLemmas.{behind-lower, behind-upper}
 use Rattle.mono_wheel.proofs.HoldingLemmas.{held-removed, keeps-removed, list-same}
 use Rattle.mono_wheel.proofs.CreditLemmas.{credit-entry}
 use Rattle.mono_wheel.proofs.LeapLemmas.{ahead-of, leap-held, leap-advanced, credit-falls}
+use Rattle.mono_wheel.specs.Counts.{Moves, no_moves}
+use Rattle.mono_wheel.proofs.HopLemmas.{takes-hop}
 
 -- a key that is twice in a list is in it once it was removed
 behind-twice : (xs : List ℕ) (key : ℕ) → StandsBehind xs key key → IsIn key (without key xs)
@@ -43,7 +45,7 @@ abbrev tick_or : Option Timed → ℕ
 tick_or None = 0
 tick_or (Some timed) = timed.tick
 
-pub first-in : {moves : ℕ} (elapsed : ℕ) (entries : List Entry) (links : Lists) (now key : ℕ) (x : Entry) → x ≡ get_or entries key no_entry
+pub first-in : {moves : Moves} (elapsed : ℕ) (entries : List Entry) (links : Lists) (now key : ℕ) (x : Entry) → x ≡ get_or entries key no_entry
     → IsFirstFar (record { elapsed = elapsed; entries = map timed_of entries; reserved = links.nodes; lines = links.lists; moves = moves }) now key → FirstAt elapsed entries now key x.tick
 first-in elapsed entries links now key x read f =
     let some : timed_in entries key ≡ None → ⊥ = λ e. (let z : at_tick f.tick ≡ None = sym f.is ∙ e in cc) in
@@ -97,7 +99,7 @@ module _ (elapsed key tick list : ℕ) (entries : List Entry) (links : Lists) (o
 
     after : (k : ℕ) → k ≢ key → timed_in (set entries key out) k ≡ timed_after elapsed tick (timed_in entries k)
     after k ne =
-        (leap-advanced elapsed tick (set entries key out) new held-out later left-far (record { elapsed = elapsed; entries = map timed_of (set entries key out); reserved = new.nodes; lines = new.lists; moves = 0 }) refl).ticks k
+        (leap-advanced elapsed tick (set entries key out) new held-out later left-far (record { elapsed = elapsed; entries = map timed_of (set entries key out); reserved = new.nodes; lines = new.lists; moves = no_moves }) refl).ticks k
         ∙ ap (timed_after elapsed tick) (timed-other entries key k out ne)
 
     first : (line other : ℕ) → StandsBehind (list_at links line) other key → timed_in entries other ≡ timed_in entries key → ⊥
@@ -119,7 +121,7 @@ module _ (elapsed key tick list : ℕ) (entries : List Entry) (links : Lists) (o
       | inr e ↦ let f = subst (IsFar tick) there (others other e.1) in let l = ahead-of tick ticks.tick f.1 in omega (arith, l, same)
     ]
 
-    pub far-came : {moves moves2 : ℕ} (v : Wheel) (now : ℕ) → (let w : Wheel = record { elapsed = elapsed; entries = map timed_of entries; reserved = links.nodes; lines = links.lists; moves = moves } in w ≡ v) → tick ≤ now →
+    pub far-came : {moves moves2 : Moves} (v : Wheel) (now : ℕ) → (let w : Wheel = record { elapsed = elapsed; entries = map timed_of entries; reserved = links.nodes; lines = links.lists; moves = moves } in w ≡ v) → tick ≤ now →
         CameOut v (record { elapsed = tick; entries = map timed_of (set entries key out); reserved = new.nodes; lines = new.lists; moves = moves2 }) now key
     far-came {moves} {moves2} v now seen by = subst (λ u. CameOut u (record { elapsed = tick; entries = map timed_of (set entries key out); reserved = new.nodes; lines = new.lists; moves = moves2 }) now key) seen (record {
       due = (record { tick = tick; registered = tick }, was, refl, by);
@@ -135,9 +137,11 @@ module _ (elapsed key tick list : ℕ) (entries : List Entry) (links : Lists) (o
       reserved = ap (λ w. w.nodes) is;
     })
 
-    pub far-credit : credit_of tick (map timed_of (set entries key out)) ≤ credit_of elapsed (map timed_of entries)
+    pub far-credit : credit_of tick (map timed_of (set entries key out)) + 1 ≤ credit_of elapsed (map timed_of entries)
     far-credit =
         let falls = credit-falls elapsed tick (set entries key out) later left-far in
-        let follows = credit-entry {moves = 0} elapsed entries links.nodes links.nodes links.lists links.lists _ key out refl far-below in
+        let follows = credit-entry {moves = no_moves} elapsed entries links.nodes links.nodes links.lists links.lists _ key out refl far-below in
         let then_ : takes elapsed (timed_in (set entries key out) key) ≡ 0 = ap (takes elapsed) (timed-here entries key out far-below ∙ none_of out empty) in
-        omega (arith, falls, follows, then_)
+        let before : takes elapsed (timed_in entries key) ≡ takes elapsed (at_tick tick) = ap (takes elapsed) was in
+        let some_left = takes-hop elapsed tick tick up (omega arith) (λ f. omega (arith, f)) in
+        omega (arith, falls, follows, then_, before, some_left)

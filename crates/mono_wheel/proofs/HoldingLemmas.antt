@@ -13,6 +13,7 @@ use Rattle.mono_wheel.proofs.PlaceLemmas.{place_of-below, place_in-below, place-
 use Rattle.mono_wheel.proofs.KeyLemmas.{none_of, some_of, timed-here, timed-other, entry-in, entry-inside, entry-below}
 use Rattle.mono_wheel.proofs.OrderLemmas.{behind-pushed, behind-removed}
 use Rattle.mono_wheel.specs.Start.{slot_count, taken_list, list_count}
+use Rattle.mono_wheel.specs.Counts.{Moves}
 
 -- One key has other ticks, and is in the list of its ticks.
 held-changed : (elapsed : ℕ) (entries : List Entry) (links new : Lists) (key : ℕ) (x : Entry) → Held elapsed entries links → key < length entries →
@@ -141,7 +142,7 @@ held-new links e none = record {
 }
 
 -- The view once one entry was written.
-pub changed-entry : {moves moves2 : ℕ} (elapsed : ℕ) (entries : List Entry) (nodes nodes2 : List Bool) (lines lines2 : List (List ℕ)) (v : Wheel) (key : ℕ) (x : Entry) →
+pub changed-entry : {moves moves2 : Moves} (elapsed : ℕ) (entries : List Entry) (nodes nodes2 : List Bool) (lines lines2 : List (List ℕ)) (v : Wheel) (key : ℕ) (x : Entry) →
     (let w : Wheel = record { elapsed = elapsed; entries = map timed_of entries; reserved = nodes; lines = lines; moves = moves } in w ≡ v) → key < length entries → nodes2 ≡ nodes →
     ((a b l : ℕ) → (a ≡ key → timed_of x ≡ timed_in entries key) → (b ≡ key → timed_of x ≡ timed_in entries key) → StandsBehind (at lines l) a b → StandsBehind (at lines2 l) a b) →
     Changed v (record { elapsed = elapsed; entries = map timed_of (set entries key x); reserved = nodes2; lines = lines2; moves = moves2 }) key (timed_of x)
@@ -166,7 +167,7 @@ pub keeps-removed : (lines lines2 : List (List ℕ)) (list key : ℕ) → list <
 keeps-removed lines lines2 list key low is a b l na nb h = subst (λ ls. StandsBehind (at ls l) a b) (sym is) (behind-removed lines list key a b l low na nb h)
 
 -- A key that is registered at the tick of an inserted key comes out before it.
-pub inserted-last : {moves moves2 : ℕ} (elapsed : ℕ) (entries : List Entry) (links new : Lists) (v : Wheel) (key list tick : ℕ) → Held elapsed entries links →
+pub inserted-last : {moves moves2 : Moves} (elapsed : ℕ) (entries : List Entry) (links new : Lists) (v : Wheel) (key list tick : ℕ) → Held elapsed entries links →
     (let w : Wheel = record { elapsed = elapsed; entries = map timed_of entries; reserved = links.nodes; lines = links.lists; moves = moves } in w ≡ v) →
     timed_in entries key ≡ None → key < length entries → elapsed < tick → list ≡ place_of elapsed tick → new ≡ with_list links list (key ∷ list_at links list) →
     (let x : Entry = record { tick = tick; registered = tick } in
@@ -218,7 +219,7 @@ held-extended elapsed entries links key tick x h some e apart later =
     (λ l s. h.found key l (subst (StandsIn elapsed l) (sym timed) (subst (StandsIn elapsed l) new s)))
     (subst (Fits elapsed) (sym new) (inr (ahead.0, let b = ahead.1 in omega (arith, b, later))))
 
-pub seen-extended : {moves moves2 : ℕ} (elapsed : ℕ) (entries : List Entry) (nodes : List Bool) (lines : List (List ℕ)) (v : Wheel) (key tick : ℕ) (x : Entry) →
+pub seen-extended : {moves moves2 : Moves} (elapsed : ℕ) (entries : List Entry) (nodes : List Bool) (lines : List (List ℕ)) (v : Wheel) (key tick : ℕ) (x : Entry) →
     (let w : Wheel = record { elapsed = elapsed; entries = map timed_of entries; reserved = nodes; lines = lines; moves = moves } in w ≡ v) →
     (timed_in entries key ≡ None → ⊥) → x ≡ get_or entries key x → x.tick ≢ elapsed → x.tick ≤ tick →
     (let new : Entry = record { tick = tick; registered = x.registered } in

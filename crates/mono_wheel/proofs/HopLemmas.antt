@@ -17,6 +17,7 @@ use Rattle.mono_wheel.proofs.KeyLemmas.{timed-read}
 use Rattle.mono_wheel.proofs.AdvanceLemmas.{moved-stays, moved-anew}
 use Rattle.mono_wheel.proofs.SkipLemmas.{takes-next, takes-before}
 use Rattle.mono_wheel.proofs.LeapLemmas.{ahead-of, far-start, credit-falls, leap-held, leap-advanced}
+use Rattle.mono_wheel.specs.Counts.{Moves}
 
 -- ---- how often a key is taken
 -- no more often from a later tick on
@@ -89,9 +90,9 @@ module _ (old out hopped new : Wheel) (goal key tick count place : ℕ) (near : 
     (was : timed_at old key ≡ at_tick tick) (up : above top_level old.elapsed < above top_level goal) (ahead : goal ≤ tick) (here : above top_level goal < above top_level tick → ⊥)
     (one : count ≡ place + 1) (is : key ≡ get_or near place 0)
     (all : (k : ℕ) → IsNear goal near count k (timed_at old k)) (apart : AreApart old goal near count) (once : Precedes old key key → ⊥)
-    (left : Changed old out key None) (follows : CreditFollows old out key) (took : out.moves ≡ old.moves + 1)
+    (left : Changed old out key None) (follows : CreditFollows old out key) (took : out.moves.slots ≤ old.moves.slots + 1) (took_all : out.moves.all ≡ old.moves.all + 1)
     (hop : Hopped out hopped goal)
-    (back : Changed hopped new key (at_tick tick)) (follows2 : CreditFollows hopped new key) (put : new.moves ≡ hopped.moves + 1) where
+    (back : Changed hopped new key (at_tick tick)) (follows2 : CreditFollows hopped new key) (put : new.moves.slots ≤ hopped.moves.slots + 1) (put_all : new.moves.all ≡ hopped.moves.all + 1) where
   slot : above top_level tick ≡ above top_level goal
   slot = let low = above-mono top_level goal tick ahead in elim (cases_lt (above top_level goal) (above top_level tick)) [ inl b ↦ absurd (here b) | inr b ↦ omega (arith, b, low) ]
 
@@ -143,11 +144,13 @@ module _ (old out hopped new : Wheel) (goal key tick count place : ℕ) (near : 
       let falls = takes-hop old.elapsed goal tick up ahead here in
       let less_there = hop.less in
       let moved_there = hop.moved in
+      let all_there = hop.all_moved in
       record {
         advanced = record { fits = fit; later = (let l = less in let e = at in omega (arith, l, e)); ticks = ticks; order = order; reserved = back.reserved ∙ hop.advanced.reserved ∙ left.reserved };
         at = at;
         less = omega (arith, follows, follows2, zero_out, before, zero_in, after, falls, less_there);
         moved = omega (arith, follows, follows2, took, put, zero_out, before, zero_in, after, falls, moved_there);
+        all_moved = omega (arith, follows, follows2, took_all, put_all, zero_out, before, zero_in, after, falls, all_there);
       }
 
 -- ---- what a hop asks of the next
@@ -193,7 +196,7 @@ apart-out old out goal count place key near one left apart = apart-less old out 
 ]) apart
 
 -- no key is near: all are due in later slots
-pub hopped-far : {moves : ℕ} (elapsed goal count : ℕ) (near : List ℕ) (entries : List Entry) (links : Lists) (v : Wheel) → Held elapsed entries links →
+pub hopped-far : {moves : Moves} (elapsed goal count : ℕ) (near : List ℕ) (entries : List Entry) (links : Lists) (v : Wheel) → Held elapsed entries links →
     (let w : Wheel = record { elapsed = elapsed; entries = map timed_of entries; reserved = links.nodes; lines = links.lists; moves = moves } in w ≡ v) →
     above top_level v.elapsed < above top_level goal → count ≡ 0 → ((k : ℕ) → IsNear goal near count k (timed_at v k)) →
     Held goal entries links × Hopped v (record { elapsed = goal; entries = map timed_of entries; reserved = links.nodes; lines = links.lists; moves = moves }) goal
@@ -204,13 +207,15 @@ hopped-far {moves} elapsed goal count near entries links v h seen up none all =
     let later : elapsed ≤ goal = omega (arith, less) in
     let falls = credit-falls elapsed goal entries later far in
     let was : credit_of elapsed (map timed_of entries) ≡ credit v = ap credit seen in
-    let moved : moves ≡ v.moves = ap (λ w. w.moves) seen in (
+    let moved : moves.slots ≡ v.moves.slots = ap (λ w. w.moves.slots) seen in
+    let all_moved : moves.all ≡ v.moves.all = ap (λ w. w.moves.all) seen in (
       leap-held elapsed goal entries links h later far,
       record {
         advanced = leap-advanced elapsed goal entries links h later far v seen;
         at = refl;
         less = omega (arith, falls, was);
         moved = omega (arith, falls, was, moved);
+        all_moved = omega (arith, falls, was, all_moved);
       },
     )
 
@@ -227,7 +232,7 @@ tick-some x timed is zero_tick = elim (eqb_tells x.tick 0) [
   | inr f ↦ absurd (f.1 zero_tick)
 ]
 
-pub ties-apart : {moves : ℕ} (elapsed goal count : ℕ) (near : List ℕ) (links : Lists) (v : Wheel) → (let w : Wheel = record { elapsed = elapsed; entries = map timed_of links.entries; reserved = links.nodes; lines = links.lists; moves = moves } in w ≡ v) →
+pub ties-apart : {moves : Moves} (elapsed goal count : ℕ) (near : List ℕ) (links : Lists) (v : Wheel) → (let w : Wheel = record { elapsed = elapsed; entries = map timed_of links.entries; reserved = links.nodes; lines = links.lists; moves = moves } in w ≡ v) →
     HasNoTies goal near links count → AreApart v goal near count
 ties-apart {moves} elapsed goal count near links v seen untied = subst (λ w. AreApart w goal near count) seen (λ a b first second la lb fa fb slot tick.
     let ta = tick-at links (get_or near a 0) first fa in
@@ -250,7 +255,7 @@ near-first least limit goal key near None g l d k = tt
 near-first least limit goal key near (Some timed) g l (same, from) (s, inl far) = (same, inl (let m = above-mono top_level limit timed.tick far in omega (arith, l, m)))
 near-first least limit goal key near (Some timed) g l (same, from) (s, inr there) = (same, inr (omega (arith, g, from), there))
 
-pub enter-near : {moves : ℕ} (elapsed least limit goal : ℕ) (near : List ℕ) (entries : List Entry) (links : Lists) (v : Wheel) →
+pub enter-near : {moves : Moves} (elapsed least limit goal : ℕ) (near : List ℕ) (entries : List Entry) (links : Lists) (v : Wheel) →
     (let w : Wheel = record { elapsed = elapsed; entries = map timed_of entries; reserved = links.nodes; lines = links.lists; moves = moves } in w ≡ v) →
     goal ≤ least → above top_level least < above top_level limit → ((k : ℕ) → IsDueFrom least (timed_at v k)) → Known limit near entries → (k : ℕ) → IsNear goal near 512 k (timed_at v k)
 enter-near {moves} elapsed least limit goal near entries links v seen first high due known k =

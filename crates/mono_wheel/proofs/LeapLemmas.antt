@@ -17,6 +17,7 @@ use Rattle.mono_wheel.proofs.PlaceLemmas.{place-ahead}
 use Rattle.mono_wheel.proofs.KeyLemmas.{timed-read, timed-here, timed-other, none_of}
 use Rattle.mono_wheel.proofs.AdvanceLemmas.{moved-stays, moved-anew}
 use Rattle.mono_wheel.proofs.SkipLemmas.{takes-next, takes-before}
+use Rattle.mono_wheel.specs.Counts.{Moves, no_moves}
 
 -- ---- how often a key is taken
 rounds-one : (a n b w : ℕ) → a < n → n ≤ a + 64 → b ≡ n + 64 * w → (b - a - 1) / 64 ≡ w
@@ -316,7 +317,7 @@ module _ (elapsed to : ℕ) (entries : List Entry) (links : Lists) (h : Held ela
       same-ticks : (timed : Timed) → timed.registered ≡ timed.tick → timed ≡ record { tick = timed.tick; registered = timed.tick }
       same-ticks timed e = ap (λ r. let t : Timed = record { tick = timed.tick; registered = r } in t) e
 
-  pub leap-advanced : {moves : ℕ} (v : Wheel) → (let w : Wheel = record { elapsed = elapsed; entries = map timed_of entries; reserved = links.nodes; lines = links.lists; moves = moves } in w ≡ v) →
+  pub leap-advanced : {moves : Moves} (v : Wheel) → (let w : Wheel = record { elapsed = elapsed; entries = map timed_of entries; reserved = links.nodes; lines = links.lists; moves = moves } in w ≡ v) →
       Advanced v (record { elapsed = to; entries = map timed_of entries; reserved = links.nodes; lines = links.lists; moves = moves })
   leap-advanced {moves} v seen = subst (λ u. Advanced u (record { elapsed = to; entries = map timed_of entries; reserved = links.nodes; lines = links.lists; moves = moves })) seen (record {
     fits = h.fits;
@@ -326,7 +327,7 @@ module _ (elapsed to : ℕ) (entries : List Entry) (links : Lists) (h : Held ela
     reserved = refl;
   })
 
-  pub leap-none-due : (let w : Wheel = record { elapsed = to; entries = map timed_of entries; reserved = links.nodes; lines = links.lists; moves = 0 } in (key : ℕ) → IsPending w key → ⊥)
+  pub leap-none-due : (let w : Wheel = record { elapsed = to; entries = map timed_of entries; reserved = links.nodes; lines = links.lists; moves = no_moves } in (key : ℕ) → IsPending w key → ⊥)
   leap-none-due key p =
       let f = far-of key p.0 p.1 in
       let a = ahead-of to p.0.tick f.1 in

@@ -11,15 +11,16 @@ use Rattle.mono_wheel.proofs.PlaceLemmas.{place-pending}
 use Rattle.mono_wheel.proofs.CallLemmas.{last-in}
 use Rattle.mono_wheel.proofs.DueLemmas.{stands-pending}
 use Rattle.mono_wheel.proofs.AdvanceLemmas.{no-slots, moved-stays, moved-anew}
+use Rattle.mono_wheel.specs.Counts.{Moves}
 
-pub none-pending : {moves : ℕ} (elapsed : ℕ) (entries : List Entry) (nodes : List Bool) (lines : List (List ℕ)) (v : Wheel) →
+pub none-pending : {moves : Moves} (elapsed : ℕ) (entries : List Entry) (nodes : List Bool) (lines : List (List ℕ)) (v : Wheel) →
     (let w : Wheel = record { elapsed = elapsed; entries = map timed_of entries; reserved = nodes; lines = lines; moves = moves } in w ≡ v) →
     ((key : ℕ) → IsPending v key → ⊥) → (key : ℕ) (timed : Timed) → timed_in entries key ≡ Some timed → timed.tick ≢ elapsed
 none-pending elapsed entries nodes lines v seen none key timed is e =
     subst (λ u. (key : ℕ) → IsPending u key → ⊥) (sym seen) none key (timed, is, e)
 
 -- The pending list has exactly the pending keys.
-module _ {moves : ℕ} (elapsed : ℕ) (entries : List Entry) (links : Lists) (v : Wheel) (h : Held elapsed entries links)
+module _ {moves : Moves} (elapsed : ℕ) (entries : List Entry) (links : Lists) (v : Wheel) (h : Held elapsed entries links)
     (seen : let w : Wheel = record { elapsed = elapsed; entries = map timed_of entries; reserved = links.nodes; lines = links.lists; moves = moves } in w ≡ v) where
   pub some-pending : (key : ℕ) (front : List ℕ) → list_at links pending_list ≡ front ++ key ∷ [] → ((k : ℕ) × IsPending v k) × (elapsed ≡ v.elapsed)
   some-pending key front is =

@@ -9,7 +9,7 @@ use Rattle.std.specs.declared.result.Result.TheVariants.{Ok, Err}
 use Rattle.mono_wheel.specs.Start.{start, top_level}
 use Rattle.mono_wheel.specs.Model.{Timed, Wheel, timed_at, timed_after, Changed, Polled}
 use Rattle.mono_wheel.specs.Credit.{credit, takes, CreditFollows}
-use Rattle.mono_wheel.specs.Calls.{CanCall, Leaves, raise, Made, FewSteps, FewMoves, AllMade, Stopped}
+use Rattle.mono_wheel.specs.Calls.{CanCall, Leaves, raise, Made, own_moves, sum_of_own, FewSteps, FewMoves, FewInAll, AllMade, Stopped}
 use Rattle.mono_wheel.specs.declared.laws.WheelCall.{WheelCall}
 use Rattle.mono_wheel.specs.declared.wheel.InsertError.{InsertError}
 use Rattle.mono_wheel.proofs.CreditLemmas.{credit-empty, takes-at-once}
@@ -27,15 +27,21 @@ take-one [] n x b e = absurd (omega (arith, b))
 take-one (y ∷ ys) zero x b e = ap (λ z. z ∷ []) (sym e)
 take-one (y ∷ ys) (suc n) x b e = ap (λ zs. y ∷ zs) (take-one ys n x (omega (arith, b)) e)
 
+own-then : (done : List WheelCall) (call : WheelCall) → sum_of_own (done ++ call ∷ []) ≡ sum_of_own done + own_moves call
+own-then [] call = omega arith
+own-then (first ∷ done) call = let r = own-then done call in omega (arith, r)
+
 pub all-then : (old now next : Wheel) (calls : List WheelCall) (n before between after : ℕ) (call : WheelCall) → n < length calls → call ≡ get_or calls n call →
-    AllMade old now (take n calls) before between → CanCall now call → Leaves now call next → FewSteps now next between after (raise now call) → FewMoves now next between after 1 → AllMade old next (take (n + 1) calls) before after
-all-then old now next calls n before between after call low is made can leaves few moved =
+    AllMade old now (take n calls) before between → CanCall now call → Leaves now call next → FewSteps now next between after (raise now call) → FewMoves now next between after (own_moves call) → FewInAll now next between after 1 → AllMade old next (take (n + 1) calls) before after
+all-then old now next calls n before between after call low is made can leaves few moved all_moved =
     let grown : take n calls ++ call ∷ [] ≡ take (n + 1) calls = sym (take-one calls n call low is) ∙ ap (λ m. take m calls) (let e : suc n ≡ n + 1 = omega arith in e) in
-    let longer : length (take (n + 1) calls) ≡ length (take n calls) + 1 = ap length (sym grown) ∙ length-append (take n calls) (call ∷ []) in (
+    let longer : length (take (n + 1) calls) ≡ length (take n calls) + 1 = ap length (sym grown) ∙ length-append (take n calls) (call ∷ []) in
+    let own : sum_of_own (take (n + 1) calls) ≡ sum_of_own (take n calls) + own_moves call = ap sum_of_own (sym grown) ∙ own-then (take n calls) call in (
       made.0 + raise now call,
       subst (λ cs. Made old cs (made.0 + raise now call) next) grown (made-then old now next (take n calls) made.0 call made.1 can leaves),
       (let a = made.2 in omega (arith, a, few)),
-      (let b = made.3 in omega (arith, b, moved, longer)),
+      (let b = made.3 in omega (arith, b, moved, own)),
+      (let d = made.4 in omega (arith, d, all_moved, longer)),
     )
 
 take-all : (xs : List WheelCall) (n : ℕ) → length xs ≤ n → take n xs ≡ xs

@@ -46,14 +46,29 @@ Made old (call ∷ rest) raises new =
 abbrev pub FewSteps : Wheel → Wheel → ℕ → ℕ → ℕ → Type 0
 FewSteps old new before after raises = after + credit new ≤ before + credit old + raises
 
--- Keys moved at most twice for each step between, and once for each of so many calls.
+-- How often the call itself may move its key to or from a slot.
+abbrev pub own_moves : WheelCall → ℕ
+own_moves (call.Insert key tick) = 1
+own_moves (call.Remove key) = 1
+own_moves (call.Extend key tick) = 0
+own_moves (call.Poll now) = 0
+
+abbrev pub sum_of_own : List WheelCall → ℕ
+sum_of_own [] = 0
+sum_of_own (call ∷ rest) = own_moves call + sum_of_own rest
+
+-- Keys entered or left a slot at most twice for each step between, and so often by the calls themselves.
 abbrev pub FewMoves : Wheel → Wheel → ℕ → ℕ → ℕ → Type 0
-FewMoves old new before after calls = new.moves + 2 * before ≤ old.moves + 2 * after + calls
+FewMoves old new before after own = new.moves.slots + 2 * before ≤ old.moves.slots + 2 * after + own
+
+-- Keys entered or left a list at most twice for each step between, and once for each of so many calls.
+abbrev pub FewInAll : Wheel → Wheel → ℕ → ℕ → ℕ → Type 0
+FewInAll old new before after calls = new.moves.all + 2 * before ≤ old.moves.all + 2 * after + calls
 
 -- All calls were made.
 abbrev pub AllMade : Wheel → Wheel → List WheelCall → ℕ → ℕ → Type 0
 AllMade old new calls before after =
-    (raises : ℕ) × Made old calls raises new × FewSteps old new before after raises × FewMoves old new before after (length calls)
+    (raises : ℕ) × Made old calls raises new × FewSteps old new before after raises × FewMoves old new before after (sum_of_own calls) × FewInAll old new before after (length calls)
 
 -- One call could not be made when its turn came: the calls before it were made, and no other.
 pub record Stopped (old new : Wheel) (calls : List WheelCall) (before after : ℕ) : Type 0 where

@@ -31,9 +31,10 @@ HasNoTie goal near links place =
 abbrev pub HasNoTies : ℕ → List ℕ → Lists → ℕ → Type 0
 HasNoTies goal near links count = (place : ℕ) → place < count → HasNoTie goal near links place
 
--- The clock moved to `goal`. Keys moved at most twice for each step by which the credit fell.
+-- The clock moved to `goal`. Keys moved at most twice for each step by which the credit fell, by both counts.
 pub record Hopped (old new : Wheel) (goal : ℕ) : Type 0 where
   pub advanced : Advanced old new
   pub at : new.elapsed ≡ goal
   pub less : credit new ≤ credit old
-  pub moved : new.moves + 2 * credit new ≤ old.moves + 2 * credit old
+  pub moved : new.moves.slots + 2 * credit new ≤ old.moves.slots + 2 * credit old
+  pub all_moved : new.moves.all + 2 * credit new ≤ old.moves.all + 2 * credit old

@@ -4,6 +4,7 @@ ghost use Rattle.mono_wheel.specs.Rings.{Distinct};
 ghost use Rattle.mono_wheel.specs.Lists.{list_at, IsIn, IsListed, IsLoose, is_node, entry_at, no_entry, with_list, with_entry, without, IsLast, PoppedBack, Added, Freed};
 ghost use Rattle.mono_wheel.specs.Holdings.{IsFirstOccupied, timed_in};
 ghost use Rattle.mono_wheel.specs.Start.{slot_count, taken_list, list_count};
+ghost use Rattle.mono_wheel.specs.Counts.{no_moves, slot_move};
 
 use crate::entry::Entry;
 use crate::level::LEVELS;
@@ -23,13 +24,15 @@ const LISTS: usize = TAKEN + 1;
 
 /// The lists of a wheel: one for each slot, the pending list, the taken list. A bit for each slot says whether its list
 /// has a node, so that the search looks once at each level. A contract sees the lists, and how often a node entered or
-/// left one of them (`moves`).
+/// left one of them (`moves.all`), and one that is not the pending list (`moves.slots`).
 #[derive(Drop)]
 pub struct SlotLinks {
     links: Links,
     occupied: Occupied,
     // In proofs alone: each node that entered or left a list.
     moves: History<usize>,
+    // In proofs alone: those of them whose list is not the pending list.
+    slot_moves: History<usize>,
 }
 
 impl Model for SlotLinks {
@@ -39,9 +42,18 @@ impl Model for SlotLinks {
 
     ghost Value = { Counted };
 
-    ghost view = { λ a. record { table = a.links; moves = length a.moves.entries } };
+    ghost view = { λ a. record { table = a.links; moves = record { slots = length a.slot_moves.entries; all = length a.moves.entries } } };
 
     ghost invariant = { λ a. Marks a.occupied a.links };
+}
+
+// Adds a node to a history, unless its list is the pending list.
+fn note_slot_move(nodes: &mut History<usize>, list: usize, node: usize)
+    ensures { length nodes.new.entries ≡ length nodes.old.entries + slot_move list }
+{
+    if list != PENDING {
+        *nodes = nodes.and(&node);
+    }
 }
 
 impl SlotLinks {
@@ -50,13 +62,14 @@ impl SlotLinks {
         ensures lists { IfOk result (λ links. links.table.lists ≡ replicate list_count []) }
         ensures nodes { IfOk result (λ links. (node : ℕ) → is_node links.table node ≡ false) }
         ensures entries { IfOk result (λ links. (node : ℕ) → entry_at links.table node ≡ no_entry) }
-        ensures moves { IfOk result (λ links. links.moves ≡ 0) }
+        ensures moves { IfOk result (λ links. links.moves ≡ no_moves) }
     {
         let links = Links::new(alloc, LISTS)?;
         Ok(SlotLinks {
             links,
             occupied: Occupied::new(),
             moves: History::new(),
+            slot_moves: History::new(),
         })
     }
 
@@ -135,13 +148,15 @@ impl SlotLinks {
         requires list { list < list_count }
         requires loose { IsLoose self.old.table node }
         ensures put { self.new.table ≡ with_entry (with_list self.old.table list (node ∷ list_at self.old.table list)) node entry }
-        ensures moves { self.new.moves ≡ self.old.moves + 1 }
+        ensures moves { self.new.moves.slots ≡ self.old.moves.slots + slot_move list }
+        ensures all_moves { self.new.moves.all ≡ self.old.moves.all + 1 }
     {
         self.links.put_front(list, node, entry);
         if list < SLOTS {
             self.occupied.mark(list);
         }
         self.moves = self.moves.and(&node);
+        note_slot_move(&mut self.slot_moves, list, node);
     }
 
     /// Removes a node from its list; the order of the others stays.
@@ -152,13 +167,15 @@ impl SlotLinks {
         ensures gone { IsIn node (list_at self.new.table list) → ⊥ }
         ensures loose { IsLoose self.new.table node }
         ensures parts { (front back : List ℕ) → list_at self.old.table list ≡ front ++ node ∷ back → self.new.table ≡ with_list self.old.table list (front ++ back) }
-        ensures moves { self.new.moves ≡ self.old.moves + 1 }
+        ensures moves { self.new.moves.slots ≡ self.old.moves.slots + slot_move list }
+        ensures all_moves { self.new.moves.all ≡ self.old.moves.all + 1 }
     {
         self.links.remove(list, node);
         if list < SLOTS && self.links.is_empty(list) {
             self.occupied.clear(list);
         }
         self.moves = self.moves.and(&node);
+        note_slot_move(&mut self.slot_moves, list, node);
     }
 
     /// Returns the node of the taken list if it has only one, or `None` if it has none or several.
@@ -181,11 +198,13 @@ impl SlotLinks {
         requires slot { slot < slot_count }
         requires alone { list_at self.old.table slot ≡ node ∷ [] }
         ensures taken { self.new.table ≡ with_entry (with_list self.old.table slot []) node entry }
-        ensures moves { self.new.moves ≡ self.old.moves + 1 }
+        ensures moves { self.new.moves.slots ≡ self.old.moves.slots + 1 }
+        ensures all_moves { self.new.moves.all ≡ self.old.moves.all + 1 }
     {
         self.links.take_only(slot, node, entry);
         self.occupied.clear(slot);
         self.moves = self.moves.and(&node);
+        note_slot_move(&mut self.slot_moves, slot, node);
     }
 
     /// Removes and returns the last node of the taken list, as one step, or returns `None` if and only if that list is
@@ -194,10 +213,12 @@ impl SlotLinks {
         ensures popped { PoppedBack self.old.table self.new.table taken_list result }
         ensures loose { IfSome result (λ node. IsLoose self.new.table node) }
         ensures steps { steps.new ≡ steps.old + (if is_some result then 1 else 0) }
-        ensures moves { self.new.moves ≡ self.old.moves + (if is_some result then 1 else 0) }
+        ensures moves { self.new.moves.slots ≡ self.old.moves.slots + (if is_some result then 1 else 0) }
+        ensures all_moves { self.new.moves.all ≡ self.old.moves.all + (if is_some result then 1 else 0) }
     {
         let node = self.links.pop_back(TAKEN, steps)?;
         self.moves = self.moves.and(&node);
+        note_slot_move(&mut self.slot_moves, TAKEN, node);
         Some(node)
     }
 

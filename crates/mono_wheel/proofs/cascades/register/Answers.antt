@@ -1,7 +1,8 @@
-use Rattle.std.proofs.Common.{◌∷◌, ap, ◌∙◌}
+use Rattle.std.proofs.Common.{arith, ◌∷◌, ap, ◌∙◌}
 use Rattle.mono_wheel.specs.Lists.{list_at, no_entry, with_entry, with_list}
 use Rattle.mono_wheel.specs.Holdings.{entry_anew}
 use Rattle.mono_wheel.proofs.KeyLemmas.{read-in}
+use Rattle.mono_wheel.proofs.MoveLemmas.{move-few}
 use Rattle.mono_wheel.proofs.cascades.register.Goals as goal
 
 pub returns-clause-registered : goal.returns-clause-registered
@@ -11,3 +12,9 @@ returns-clause-registered c = record {
   entries_are = ap (λ w. w.entries) c.put_front.ensures.put;
   links_are = c.put_front.ensures.put ∙ ap (λ l. with_entry (with_list c.args.links.now.table l (c.args.key ∷ list_at c.args.links.now.table l)) c.args.key (entry_anew c.entry-tick.result)) c.standing-list.ensures;
 }
+
+pub returns-clause-moves : goal.returns-clause-moves
+returns-clause-moves c =
+    let put = c.put_front.ensures.moves in
+    let few = move-few c.standing-list.result in
+    omega (arith, put, few)

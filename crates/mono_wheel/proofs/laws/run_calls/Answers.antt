@@ -15,5 +15,5 @@ loop-at-preserved g c =
     let made = c.if-not-run_call.ensures.made refl in (
       omega (arith, c.loop-at-test.true, c.len.ensures),
       all-then c.args.wheel.now c.loop-at.wheel c.run_call.new.wheel c.args.calls.now.items c.loop-at.at c.args.steps.now c.loop-at.steps c.run_call.new.steps c.index.result.now (omega (arith, c.loop-at-test.true, c.len.ensures)) c.index.ensures
-          c.loop-at.invariant.1 made.0 made.1 made.2 made.3,
+          c.loop-at.invariant.1 made.0 made.1 made.2 made.3 made.4,
     )

@@ -53,6 +53,6 @@ returns t c =
     let at = hop-at c.args.goal c.args.count (get_or c.args.near.now (c.args.count - 1) 0) c.tick_of-tick.result c.args.near.now (timed_at c.args.self.now (get_or c.args.near.now (c.args.count - 1) 0)) c.if-tick-eq0.false c.tick_of-tick.ensures (c.requires.near (get_or c.args.near.now (c.args.count - 1) 0)) not in
     record {
       hopped = hopped-one c.args.self.now c.take_out.new.self c.hop-2.new.self c.put.new.self c.args.goal (get_or c.args.near.now (c.args.count - 1) 0) c.tick_of-tick.result c.args.count (c.args.count - 1) c.args.near.now
-          at.0 c.requires.ahead at.1 not (let some = c.if-count-eq0.false in omega (arith, some)) refl c.requires.near c.requires.apart c.take_out.ensures.once c.take_out.ensures.changed c.take_out.ensures.credit c.take_out.ensures.moves c.hop-2.ensures.hopped
-          c.put.ensures.changed c.put.ensures.credit c.put.ensures.moves;
+          at.0 c.requires.ahead at.1 not (let some = c.if-count-eq0.false in omega (arith, some)) refl c.requires.near c.requires.apart c.take_out.ensures.once c.take_out.ensures.changed c.take_out.ensures.credit c.take_out.ensures.few c.take_out.ensures.all_moves c.hop-2.ensures.hopped
+          c.put.ensures.changed c.put.ensures.credit c.put.ensures.few c.put.ensures.all_moves;
     }

@@ -105,9 +105,18 @@ invariant_of-self-in-Some g c =
 
 pub returns-in-Some-clause-counted : goal.returns-in-Some-clause-counted
 returns-in-Some-clause-counted g c =
-    let took = c.take.ensures.moves in
+    let took = ap (λ m. m.slots) c.take.ensures.moves in
     let more = c.skip_to-goal.ensures.more in
     let steps = c.cascade.ensures.steps in
     let moves = c.cascade.ensures.moves in
-    let was = ap (λ w. w.moves) c.self.view_is in
+    let was = ap (λ w. w.moves.slots) c.self.view_is in
+    omega (arith, took, more, steps, moves, was)
+
+pub returns-in-Some-clause-all_counted : goal.returns-in-Some-clause-all_counted
+returns-in-Some-clause-all_counted g c =
+    let took = ap (λ m. m.all) c.take.ensures.moves in
+    let more = c.skip_to-goal.ensures.more in
+    let steps = c.cascade.ensures.steps in
+    let moves = c.cascade.ensures.all_moves in
+    let was = ap (λ w. w.moves.all) c.self.view_is in
     omega (arith, took, more, steps, moves, was)

@@ -44,5 +44,11 @@ returns-clause-steps g c =
 pub returns-clause-counted : goal.returns-clause-counted
 returns-clause-counted g c =
     let spared = c.spare.ensures in
-    let was = ap (λ w. w.moves) (c.self-2.view_is ∙ c.least_due-least.ensures.same) in
+    let was = ap (λ w. w.moves.slots) (c.self-2.view_is ∙ c.least_due-least.ensures.same) in
+    omega (arith, spared, was)
+
+pub returns-clause-all_counted : goal.returns-clause-all_counted
+returns-clause-all_counted g c =
+    let spared = c.spare.ensures in
+    let was = ap (λ w. w.moves.all) (c.self-2.view_is ∙ c.least_due-least.ensures.same) in
     omega (arith, spared, was)

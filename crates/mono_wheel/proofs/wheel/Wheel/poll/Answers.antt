@@ -35,6 +35,12 @@ loop-key-preserved g c = record {
       let step = c.if-not-go_on.ensures.counted in
       let before = c.loop-key.invariant.moved in
       omega (arith, due, alone, step, before);
+  all_moved =
+      let due = c.in-None.ensures.all_moves in
+      let alone = c.in-None-take_soon.ensures.all_counted in
+      let step = c.if-not-go_on.ensures.all_counted in
+      let before = c.loop-key.invariant.all_moved in
+      omega (arith, due, alone, step, before);
   counted =
       let due = c.in-None.ensures.credit in
       let alone = c.in-None-take_soon.ensures.steps in
@@ -101,4 +107,43 @@ pub returns-then-not-go_on-clause-moves : goal.returns-then-not-go_on-clause-mov
 returns-then-not-go_on-clause-moves g c =
     let steps = returns-then-not-go_on-clause-steps g c in
     let counted = returns-then-not-go_on-clause-counted g c in
+    omega (arith, steps, counted)
+
+pub returns-in-Some-clause-all_counted : goal.returns-in-Some-clause-all_counted
+returns-in-Some-clause-all_counted g c =
+    let due = c.in-Some.ensures.all_moves in
+    let before = c.loop-key.invariant.all_moved in
+    omega (arith, due, before)
+
+pub returns-in-Some-take_soon-clause-all_counted : goal.returns-in-Some-take_soon-clause-all_counted
+returns-in-Some-take_soon-clause-all_counted g c =
+    let due = c.in-None.ensures.all_moves in
+    let alone = c.in-Some-take_soon.ensures.all_counted in
+    let before = c.loop-key.invariant.all_moved in
+    omega (arith, due, alone, before)
+
+pub returns-then-not-go_on-clause-all_counted : goal.returns-then-not-go_on-clause-all_counted
+returns-then-not-go_on-clause-all_counted g c =
+    let due = c.in-None.ensures.all_moves in
+    let alone = c.in-None-take_soon.ensures.all_counted in
+    let step = c.if-not-go_on.ensures.all_counted in
+    let before = c.loop-key.invariant.all_moved in
+    omega (arith, due, alone, step, before)
+
+pub returns-in-Some-clause-all_moves : goal.returns-in-Some-clause-all_moves
+returns-in-Some-clause-all_moves g c =
+    let steps = returns-in-Some-clause-steps g c in
+    let counted = returns-in-Some-clause-all_counted g c in
+    omega (arith, steps, counted)
+
+pub returns-in-Some-take_soon-clause-all_moves : goal.returns-in-Some-take_soon-clause-all_moves
+returns-in-Some-take_soon-clause-all_moves g c =
+    let steps = returns-in-Some-take_soon-clause-steps g c in
+    let counted = returns-in-Some-take_soon-clause-all_counted g c in
+    omega (arith, steps, counted)
+
+pub returns-then-not-go_on-clause-all_moves : goal.returns-then-not-go_on-clause-all_moves
+returns-then-not-go_on-clause-all_moves g c =
+    let steps = returns-then-not-go_on-clause-steps g c in
+    let counted = returns-then-not-go_on-clause-all_counted g c in
     omega (arith, steps, counted)

@@ -7,7 +7,8 @@ abbrev pub invariant-loop-key : goal.invariant-loop-key
 invariant-loop-key g l = record {
   since : Since l.fn.self l.self;
   ahead : l.self.elapsed ≤ l.now;
-  moved : l.self.moves + 2 * l.fn.steps ≤ l.fn.self.moves + 2 * l.steps;
+  moved : l.self.moves.slots + 2 * l.fn.steps ≤ l.fn.self.moves.slots + 2 * l.steps;
+  all_moved : l.self.moves.all + 2 * l.fn.steps ≤ l.fn.self.moves.all + 2 * l.steps;
   counted : l.steps + credit_of l.self.elapsed l.self.entries ≡ l.fn.steps + credit_of l.fn.self.elapsed l.fn.self.entries;
 }
 

@@ -10,6 +10,7 @@ use Rattle.mono_wheel.specs.Leap.{Known}
 use Rattle.mono_wheel.proofs.LeapLemmas.{known-put}
 use Rattle.mono_wheel.proofs.CreditLemmas.{credit-entry}
 use Rattle.mono_wheel.proofs.TickChangeLemmas.{written, held-written}
+use Rattle.mono_wheel.proofs.MoveLemmas.{move-few}
 use Rattle.mono_wheel.proofs.wheel.Wheel.put.Goals as goal
 
 pub invariant_of-self : goal.invariant_of-self
@@ -41,8 +42,15 @@ returns-clause-credit c =
     (credit-entry c.self.inside.elapsed c.self.inside.links.table.entries c.self.inside.links.table.nodes c.self.inside.links.table.nodes c.self.inside.links.table.lists (with_list c.self.inside.links.table c.standing-list.result (c.args.key ∷ list_at c.self.inside.links.table c.standing-list.result)).lists c.args.self.now c.args.key record { tick = c.args.tick; registered = c.args.tick } c.self.view_is
     (c.self.invariant.0.room c.args.key (subst (λ w. is_reserved w c.args.key ≡ true) (sym c.self.view_is) c.requires.reserved)))
 
-pub returns-clause-moves : goal.returns-clause-moves
-returns-clause-moves c =
+pub returns-clause-few : goal.returns-clause-few
+returns-clause-few c =
     let put = c.put_front.ensures.moves in
-    let was = ap (λ w. w.moves) c.self.view_is in
+    let few = move-few c.standing-list.result in
+    let was = ap (λ w. w.moves.slots) c.self.view_is in
+    omega (arith, put, few, was)
+
+pub returns-clause-all_moves : goal.returns-clause-all_moves
+returns-clause-all_moves c =
+    let put = c.put_front.ensures.all_moves in
+    let was = ap (λ w. w.moves.all) c.self.view_is in
     omega (arith, put, was)

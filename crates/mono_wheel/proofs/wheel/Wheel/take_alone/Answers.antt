@@ -51,5 +51,13 @@ returns-clause-counted g c =
     let out = c.take_only.ensures.moves in
     let added = c.add.ensures in
     let stepped = c.tick.ensures in
-    let was = ap (λ w. w.moves) c.self.view_is in
+    let was = ap (λ w. w.moves.slots) c.self.view_is in
+    omega (arith, out, added, stepped, was)
+
+pub returns-clause-all_counted : goal.returns-clause-all_counted
+returns-clause-all_counted g c =
+    let out = c.take_only.ensures.all_moves in
+    let added = c.add.ensures in
+    let stepped = c.tick.ensures in
+    let was = ap (λ w. w.moves.all) c.self.view_is in
     omega (arith, out, added, stepped, was)

@@ -10,6 +10,7 @@ use Rattle.mono_wheel.proofs.LeapLemmas.{known-out}
 use Rattle.mono_wheel.proofs.TickChangeLemmas.{written, held-written}
 use Rattle.mono_wheel.proofs.wheel.Wheel.take_due.Goals as goal
 use Rattle.mono_wheel.specs.Start.{pending_list}
+use Rattle.mono_wheel.proofs.MoveLemmas.{move-pending}
 
 pub remove-requires-clause-within : goal.remove-requires-clause-within
 remove-requires-clause-within c = last-in (list_at c.self.inside.links.table pending_list) c.in_ok-key.key c.in_ok-key.ensures
@@ -40,6 +41,14 @@ set_entry-requires c = c.remove.ensures.loose.known
 pub returns-clause-moves : goal.returns-clause-moves
 returns-clause-moves c =
     let out = c.remove.ensures.moves in
-    let wrote = c.set_entry.ensures.moves in
-    let was = ap (λ w. w.moves) c.self.view_is in
+    let none = move-pending pending_list refl in
+    let wrote = ap (λ m. m.slots) c.set_entry.ensures.moves in
+    let was = ap (λ w. w.moves.slots) c.self.view_is in
+    omega (arith, out, none, wrote, was)
+
+pub returns-clause-all_moves : goal.returns-clause-all_moves
+returns-clause-all_moves c =
+    let out = c.remove.ensures.all_moves in
+    let wrote = ap (λ m. m.all) c.set_entry.ensures.moves in
+    let was = ap (λ w. w.moves.all) c.self.view_is in
     omega (arith, out, wrote, was)

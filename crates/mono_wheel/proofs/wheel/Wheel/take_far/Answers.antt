@@ -1,4 +1,4 @@
-use Rattle.std.proofs.Common.{arith, ◌≤◌, map, ap, refl, sym, ◌∙◌, subst}
+use Rattle.std.proofs.Common.{arith, ◌+◌, ◌≤◌, map, ap, refl, sym, ◌∙◌, subst}
 use Rattle.mono_wheel.specs.Model.{CameOut}
 use Rattle.mono_wheel.specs.Credit.{credit, credit_of}
 use Rattle.mono_wheel.specs.Holdings.{timed_of, wheel_of}
@@ -7,6 +7,7 @@ use Rattle.mono_wheel.proofs.FarLemmas.{first-in, far-below, far-inside, far-hel
 use Rattle.mono_wheel.proofs.LeapLemmas.{known-out}
 use Rattle.mono_wheel.proofs.StepsLemmas.{fall-told}
 use Rattle.mono_wheel.proofs.TickChangeLemmas.{written, held-written}
+use Rattle.mono_wheel.proofs.MoveLemmas.{move-few}
 use Rattle.mono_wheel.proofs.wheel.Wheel.take_far.Goals as goal
 
 pub remove-requires-clause-within : goal.remove-requires-clause-within
@@ -32,7 +33,7 @@ returns-clause-taken g c =
 pub returns-clause-steps : goal.returns-clause-steps
 returns-clause-steps g c =
     let at = first-in c.self.inside.elapsed c.self.inside.links.table.entries c.self.inside.links.table c.args.now c.in_ok-key.key c.entry-tick.result c.entry-tick.ensures (subst (λ w. IsFirstFar w c.args.now c.in_ok-key.key) (sym (c.self.view_is ∙ c.first_far.ensures.same)) c.in_ok-key.ensures.first) in
-    let falls : credit (wheel_of c.entry-tick.result.tick c.set_entry.new.self) ≤ credit_of c.self.inside.elapsed (map timed_of c.self.inside.links.table.entries) = subst (λ w. credit (wheel_of c.entry-tick.result.tick record { table = w; moves = c.set_entry.new.self.moves }) ≤ credit_of c.self.inside.elapsed (map timed_of c.self.inside.links.table.entries)) (sym (written c.remove.new.self.table c.set_entry.new.self.table c.self.inside.links.table.entries c.in_ok-key.key record { tick = 0; registered = 0 } (ap (λ w. w.entries) c.remove.ensures.without) c.set_entry.ensures.written)) (far-credit c.self.inside.elapsed c.in_ok-key.key c.entry-tick.result.tick c.place-list.result c.self.inside.links.table.entries c.self.inside.links.table record { tick = 0; registered = 0 } c.self.invariant.0 at.is at.ahead at.others refl c.place-list.ensures c.remove.new.self.table c.remove.ensures.without c.remove.ensures.gone) in
+    let falls : credit (wheel_of c.entry-tick.result.tick c.set_entry.new.self) + 1 ≤ credit_of c.self.inside.elapsed (map timed_of c.self.inside.links.table.entries) = subst (λ w. credit (wheel_of c.entry-tick.result.tick record { table = w; moves = c.set_entry.new.self.moves }) + 1 ≤ credit_of c.self.inside.elapsed (map timed_of c.self.inside.links.table.entries)) (sym (written c.remove.new.self.table c.set_entry.new.self.table c.self.inside.links.table.entries c.in_ok-key.key record { tick = 0; registered = 0 } (ap (λ w. w.entries) c.remove.ensures.without) c.set_entry.ensures.written)) (far-credit c.self.inside.elapsed c.in_ok-key.key c.entry-tick.result.tick c.place-list.result c.self.inside.links.table.entries c.self.inside.links.table record { tick = 0; registered = 0 } c.self.invariant.0 at.is at.ahead at.others refl c.place-list.ensures c.remove.new.self.table c.remove.ensures.without c.remove.ensures.gone) in
     let told = fall-told _ _ _ _ _ c.new-none.ensures c.note_credit-before.ensures c.note_credit-both.ensures in
     let seen = ap credit (c.self.view_is ∙ c.first_far.ensures.same) in
     let same = ap credit c.first_far.ensures.same in
@@ -41,8 +42,21 @@ returns-clause-steps g c =
 
 pub returns-clause-counted : goal.returns-clause-counted
 returns-clause-counted g c =
+    let at = first-in c.self.inside.elapsed c.self.inside.links.table.entries c.self.inside.links.table c.args.now c.in_ok-key.key c.entry-tick.result c.entry-tick.ensures (subst (λ w. IsFirstFar w c.args.now c.in_ok-key.key) (sym (c.self.view_is ∙ c.first_far.ensures.same)) c.in_ok-key.ensures.first) in
+    let falls : credit (wheel_of c.entry-tick.result.tick c.set_entry.new.self) + 1 ≤ credit_of c.self.inside.elapsed (map timed_of c.self.inside.links.table.entries) = subst (λ w. credit (wheel_of c.entry-tick.result.tick record { table = w; moves = c.set_entry.new.self.moves }) + 1 ≤ credit_of c.self.inside.elapsed (map timed_of c.self.inside.links.table.entries)) (sym (written c.remove.new.self.table c.set_entry.new.self.table c.self.inside.links.table.entries c.in_ok-key.key record { tick = 0; registered = 0 } (ap (λ w. w.entries) c.remove.ensures.without) c.set_entry.ensures.written)) (far-credit c.self.inside.elapsed c.in_ok-key.key c.entry-tick.result.tick c.place-list.result c.self.inside.links.table.entries c.self.inside.links.table record { tick = 0; registered = 0 } c.self.invariant.0 at.is at.ahead at.others refl c.place-list.ensures c.remove.new.self.table c.remove.ensures.without c.remove.ensures.gone) in
+    let steps = returns-clause-steps g c in
+    let seen = ap credit (c.self.view_is ∙ c.first_far.ensures.same) in
+    let same = ap credit c.first_far.ensures.same in
     let out = c.remove.ensures.moves in
-    let wrote = c.set_entry.ensures.moves in
+    let few = move-few c.place-list.result in
+    let wrote = ap (λ m. m.slots) c.set_entry.ensures.moves in
+    let was = ap (λ w. w.moves.slots) (c.self.view_is ∙ c.first_far.ensures.same) in
+    omega (arith, falls, steps, seen, same, out, few, wrote, was)
+
+pub returns-clause-all_counted : goal.returns-clause-all_counted
+returns-clause-all_counted g c =
+    let out = c.remove.ensures.all_moves in
+    let wrote = ap (λ m. m.all) c.set_entry.ensures.moves in
     let spared = c.spare.ensures in
-    let was = ap (λ w. w.moves) (c.self.view_is ∙ c.first_far.ensures.same) in
+    let was = ap (λ w. w.moves.all) (c.self.view_is ∙ c.first_far.ensures.same) in
     omega (arith, out, wrote, spared, was)
