@@ -262,11 +262,9 @@ where
     /// `others`). The same holds of the runtime afterwards.
     ///
     /// ```rust
-    /// // use_channel/src/main.rt
-    /// match runtime.block_on(rt, alloc, Party::consumer(total), 1000) {
-    ///     Ok(sum) => Some((sum, runtime.shared().numbers.len())),
-    ///     Err(_) => None,
-    /// }
+    /// // example_channels/src/two_tasks.rt
+    /// let sum = runtime.block_on(rt, alloc, consumer, 1000).ok()?;
+    /// Some((sum, runtime.shared().part.len()))
     /// ```
     pub fn block_on<R: Host>(
         &mut self,

@@ -197,10 +197,9 @@ impl<D: Buildable, P: ThreadPool + Drop> RuntimeBuilder<D, P> {
     /// as in `build`.
     ///
     /// ```rust
-    /// // use_channel/src/main.rt
-    /// let made: Running = match builder.build_sharing(alloc, board) {
-    ///     Ok(made) => made,
-    ///     Err(_) => return None,
+    /// // example_channels/src/two_tasks.rt
+    /// let Ok(mut runtime) = builder.build_sharing(alloc, Only { part }) else {
+    ///     return None;
     /// };
     /// ```
     pub fn build_sharing<F: Drop, O: Outcome + Drop, W: SharedState + Drop>(

@@ -31,10 +31,8 @@ impl<F: Drop, O: Outcome + Drop, D: Driver, P: ThreadPool + Drop, W: SharedState
     /// record the spawn, and the driver gets no call (`journal`, `same`).
     ///
     /// ```rust
-    /// // use_channel/src/main.rt
-    /// if runtime.spawn(alloc, Party::producer(1, each)).is_err() {
-    ///     return None;
-    /// }
+    /// // example_channels/src/two_tasks.rt
+    /// runtime.spawn(alloc, producer).ok()?;
     /// ```
     pub fn spawn(&mut self, alloc: Global, future: F) -> Result<JoinHandle<O>, SpawnRefused<F>>
         ensures number { IfOk result (λ handle. handle ≡ next_number (tasks_of self.old).table) }
