@@ -30,7 +30,19 @@ pub(crate) fn put_later(wheel: &mut Wheel, key: usize, tick: u64)
     ensures raise { credit wheel.new ≤ credit wheel.old + most_takes (tick - wheel.old.elapsed) }
 {
     if !wheel.extend(key, tick) {
-        wheel.remove(key);
-        put_in(wheel, key, tick);
+        put_anew(wheel, key, tick);
     }
+}
+
+// Takes out a key that is in, and inserts it at another tick above the elapsed tick.
+fn put_anew(wheel: &mut Wheel, key: usize, tick: u64)
+    requires reserved { is_reserved wheel.old key ≡ true }
+    requires within { timed_at wheel.old key ≢ None }
+    requires above { wheel.old.elapsed < tick }
+    requires range { tick < 2 ^ 63 }
+    ensures armed { ArmedAnew wheel.old wheel.new key tick }
+    ensures raise { credit wheel.new ≤ credit wheel.old + most_takes (tick - wheel.old.elapsed) }
+{
+    wheel.remove(key);
+    put_in(wheel, key, tick);
 }
