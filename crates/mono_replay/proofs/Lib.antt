@@ -1,3 +1,4 @@
+pub mod TaskInboxLemmas
 pub mod TimersLemmas
 pub mod FireLemmas
 pub mod MatchLemmas

@@ -8,7 +8,7 @@ use Rattle.mono_model.specs.Tasks.{Tasks, Task, spawned, completed_value, paused
 use Rattle.mono_model.specs.Inbox.{is_waiting, with_waiting}
 use Rattle.mono_model.specs.declared.poll.Poll.TheVariants.{Ready, Pending}
 use Rattle.mono_model.specs.declared.task_error.TaskError.{TaskError}
-use Rattle.mono_inbox.specs.State.{State, is_unlisted, after_put, with_list, AlsoKnows, Forgets}
+use Rattle.mono_replay.specs.TaskInbox.{TaskList, is_unlisted, after_put, with_list, AlsoKnows, Forgets}
 use Rattle.mono_task.specs.Schedule.{Schedule}
 use Rattle.mono_task.specs.Schedule as schedule
 use Rattle.mono_machine.specs.Machine.{Machine, with_tasks, with_inbox, IsValid}
@@ -32,7 +32,7 @@ use Rattle.mono_machine.proofs.RunLemmas.{first_and_rest}
 abbrev pub with_schedule : Parts → Schedule ℕ → Parts
 with_schedule parts s = record { tasks = s; timers = parts.timers; jobs = parts.jobs; inbox = parts.inbox; blocking = parts.blocking }
 
-abbrev pub with_both : Parts → Schedule ℕ → State → Parts
+abbrev pub with_both : Parts → Schedule ℕ → TaskList → Parts
 with_both parts s inbox = record { tasks = s; timers = parts.timers; jobs = parts.jobs; inbox = inbox; blocking = parts.blocking }
 
 -- the same tasks have finished
@@ -55,7 +55,7 @@ also_unfinished true f = refl
 also_unfinished false f = refl
 
 -- one more task, which the inbox knows
-pub spawned_and_known : (parts : Parts) (m : Machine) (s : Schedule ℕ) (inbox : State) (t : ℕ) → Matches parts m → s.tasks ≡ spawned m.tasks → t ≡ next_number m.tasks.table → AlsoKnows parts.inbox inbox t → Matches (with_both parts s inbox) (with_tasks m (spawned m.tasks))
+pub spawned_and_known : (parts : Parts) (m : Machine) (s : Schedule ℕ) (inbox : TaskList) (t : ℕ) → Matches parts m → s.tasks ≡ spawned m.tasks → t ≡ next_number m.tasks.table → AlsoKnows parts.inbox inbox t → Matches (with_both parts s inbox) (with_tasks m (spawned m.tasks))
 spawned_and_known parts m s inbox t st is at knows = record {
   tasks = is;
   sleeps = st.sleeps;
@@ -71,7 +71,7 @@ but_unfinished true f = refl
 but_unfinished false f = refl
 
 -- the task has finished, and the inbox forgets it
-pub completed_and_forgotten : (parts : Parts) (m : Machine) (s : Schedule ℕ) (inbox : State) (me output : ℕ) → Matches parts m → s.tasks ≡ completed_value (value_at m.tasks.table me) m.tasks me output → Forgets parts.inbox inbox me
+pub completed_and_forgotten : (parts : Parts) (m : Machine) (s : Schedule ℕ) (inbox : TaskList) (me output : ℕ) → Matches parts m → s.tasks ≡ completed_value (value_at m.tasks.table me) m.tasks me output → Forgets parts.inbox inbox me
     → Matches (with_both parts s inbox) (with_tasks m (completed_value (value_at m.tasks.table me) m.tasks me output))
 completed_and_forgotten parts m s inbox me output st is forgets = record {
   tasks = is;
@@ -90,7 +90,7 @@ pub ended-pending : (s : Schedule ℕ) (me : ℕ) → s.turn ≡ Some me → (sc
 ended-pending s me is = ap (λ turn. (schedule.ended_by turn s Pending).tasks) is
 
 -- another inbox
-abbrev pub with_state : Parts → State → Parts
+abbrev pub with_state : Parts → TaskList → Parts
 with_state parts inbox = record { tasks = parts.tasks; timers = parts.timers; jobs = parts.jobs; inbox = inbox; blocking = parts.blocking }
 
 never_there : (table : Table (Task ℕ)) (t : ℕ) → is_issued table t ≡ false → value_at table t ≡ None
@@ -139,7 +139,7 @@ listed_by false parts m t st = record {
   strategy = st.strategy;
 }
 
-pub remote_put : (parts : Parts) (m : Machine) (t : ℕ) (inbox : State) → Matches parts m → inbox ≡ after_put parts.inbox t → Matches (with_state parts inbox) (after_remote m t)
+pub remote_put : (parts : Parts) (m : Machine) (t : ℕ) (inbox : TaskList) → Matches parts m → inbox ≡ after_put parts.inbox t → Matches (with_state parts inbox) (after_remote m t)
 remote_put parts m t inbox st is =
     subst (λ x. Matches (with_state parts x) (after_remote m t)) (sym is)
     (subst (Matches (with_state parts (after_put parts.inbox t))) (sym (remote-put m t))

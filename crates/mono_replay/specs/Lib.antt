@@ -1,3 +1,4 @@
+pub mod TaskInbox
 pub mod JobTable
 pub mod PartRefinement
 pub mod Refinement

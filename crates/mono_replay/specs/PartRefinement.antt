@@ -2,7 +2,7 @@
 use Rattle.std.specs.Prelude.{◌≡◌, ℕ, not}
 use Rattle.mono_model.specs.Table.{value_at}
 use Rattle.mono_model.specs.Sleeps.{Sleeps}
-use Rattle.mono_inbox.specs.State.{is_known}
+use Rattle.mono_replay.specs.TaskInbox.{is_known}
 use Rattle.mono_task.specs.Schedule.{Schedule}
 use Rattle.mono_time.specs.Refinement.{Keeps}
 use Rattle.mono_time.specs.Timers.{sleeps_of, elapsed_tick}

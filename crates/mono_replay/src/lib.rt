@@ -4,6 +4,7 @@
 
 mod clock_steps;
 mod executor;
+mod inbox;
 mod jobs;
 pub mod laws;
 mod lists;

@@ -7,9 +7,9 @@ ghost use Rattle.mono_time.specs.Timers.{sleeps_of, registered_of};
 ghost use Rattle.mono_replay.specs.PartRefinement.{Matches};
 ghost use Rattle.mono_time.specs.Registrations.{FollowsAct};
 
+use crate::inbox::TaskInbox;
 use crate::jobs::Jobs;
 use crate::{Act, Blocking, Query, Refusal, Reply, TurnStep};
-use mono_inbox::InboxState;
 use mono_machine::{
     Limits, drop_reply, elapsed_reply, finished_reply, gone_reply, join_reply, poll_reply,
     reply_of, wake_reply,
@@ -26,7 +26,7 @@ pub struct Parts {
     pub tasks: Tasks<u64>,
     pub timers: Timers,
     pub jobs: Jobs,
-    pub inbox: InboxState,
+    pub inbox: TaskInbox,
     pub blocking: Blocking,
 }
 
@@ -39,7 +39,7 @@ impl Parts {
     {
         let tasks = Tasks::new(alloc, limits.tasks)?;
         let timers = Timers::new(alloc, limits.sleeps, true)?;
-        let inbox = InboxState::new(alloc, 0)?;
+        let inbox = TaskInbox::new(alloc)?;
         Ok(Parts {
             tasks,
             timers,

@@ -1,7 +1,7 @@
 use Rattle.std.proofs.Common.{◌≡◌, ap, sym, ◌∙◌, ◌++◌}
 use Rattle.std.specs.Prelude.{not}
 use Rattle.mono_model.specs.Tasks.{all_woken}
-use Rattle.mono_inbox.specs.State.{is_known}
+use Rattle.mono_replay.specs.TaskInbox.{is_known}
 use Rattle.mono_machine.proofs.FinishedSetLemmas.{alike_all_woken}
 use Rattle.mono_replay.proofs.parts.Parts.drain.Goals as goal
 
