@@ -30,6 +30,16 @@ CAP = 16 * 1024 * 1024
 LIMITS = ["4194304"] * 3
 
 
+def begin(title, text):
+    """Prints the heading of a table, and what its rows are."""
+    print(f"\n## {title}\n\n{text}\n")
+
+
+def row(label, *cells):
+    """Prints a row of a table."""
+    print(f"    {label:32}{''.join(f'  {cell:>12}' for cell in cells)}".rstrip(), flush=True)
+
+
 class Bench:
     """The two programs, the folder of inputs and plain programs, and how much is run."""
 
@@ -77,15 +87,14 @@ class Bench:
                     side.append(self.once(words, source))
         return [(min(t for t, _ in side), max(m for _, m in side)) if side else None for side in sides]
 
-    def table(self, title, command, rows, other="Plain"):
+    def table(self, title, command, rows, other="plain"):
         """Prints a table; a row is a label, our words, the other program's words or None, and an input or None."""
-        print(f"\n## {title}\n\nCommand: `{command}`.\n")
-        print(f"| Workload | Ratio | Time, ms | {other}, ms | Peak memory, MB | {other}, MB |\n|---|---|---|---|---|---|", flush=True)
+        begin(title, f"Command: `{command}`.")
+        row("", "ms", "MB", "ratio", f"{other} ms", f"{other} MB")
         for label, ours, plain, source in rows:
             here, there = self.pair(ours, plain, source)
-            ratio = f"{here[0] / max(there[0], 1e-6):.2f}" if there else ""
-            cells = (f"{1000 * there[0]:.0f}", f"{there[1] / 1024:.1f}") if there else ("", "")
-            print(f"| {label} | {ratio} | {1000 * here[0]:.0f} | {cells[0]} | {here[1] / 1024:.1f} | {cells[1]} |", flush=True)
+            cells = (f"{here[0] / max(there[0], 1e-6):.2f}", f"{1000 * there[0]:.0f}", f"{there[1] / 1024:.1f}") if there else ()
+            row(label, f"{1000 * here[0]:.0f}", f"{here[1] / 1024:.1f}", *cells)
 
 
 def replays(b):
@@ -103,10 +112,10 @@ def replays(b):
     b.table("Replay", "monoio replay attached 4194304 4194304 4194304 < FILE", rows)
     count = str(100000 // b.by)
     b.table("Load", f"monoio load 7 {count}", [("load", [b.program, "load", "7", count], [b.path("replay"), "load", "7", count], None)])
-    print("\n## Check\n\nCommand: `monoio check` of a journal, by the replay of its events.\n\n| Journal | Ratio |\n|---|---|")
+    begin("Check", "Command: `monoio check` of a journal. The ratio is its time by that of the replay of its events.")
     for kind, check, journal, replay, events in checks:
         times = [min(b.once(words, source)[0] for _ in range(b.runs)) for words, source in ((check, journal), (replay, events))]
-        print(f"| {kind} | {times[0] / max(times[1], 1e-6):.2f} |", flush=True)
+        row(kind, f"{times[0] / max(times[1], 1e-6):.2f}")
 
 
 def services(b):
@@ -140,14 +149,14 @@ def workloads(b):
     ]
     full = []
     for words, plain in rows:
-        full.append((f"`{' '.join(words)}`", [b.bench, *words], [b.path(plain), *words[1:]] if plain else None, None))
+        full.append((" ".join(words), [b.bench, *words], [b.path(plain), *words[1:]] if plain else None, None))
     b.table("Workloads of `mono_bench`", "mono_bench WORKLOAD ..", full)
 
 
 def memory(b):
     """Prints the bytes of one of many: the peak memory of many without that of one, by how many there are."""
     count = 1000000 // b.by
-    print(f"\n## Memory\n\nPeak memory of many without that of two, by how many live.\n\n| Each | Command | Bytes |\n|---|---|---|")
+    begin("Memory", "Command: `mono_bench WORKLOAD ..`. The bytes of each are the peak memory of many without that of two, by how many live.")
     for each, words, n, every in (
         ("a task with a sleep", ["turns", "sleeps", "{}"], count, 1),
         ("a session in a queue of two", ["beats", "{}", "0"], count, 1),
@@ -157,7 +166,7 @@ def memory(b):
         ("the only live task of 256", ["sparse", "tasks", "{}", "256"], 16 * count, 256),
     ):
         many, two = (b.once([b.bench, *(word.format(m) for word in words)], None)[1] for m in (n, 2 * every))
-        print(f"| {each} | `mono_bench {' '.join(words).format(n)}` | {1024 * (many - two) * every / n:.0f} |", flush=True)
+        row(" ".join(words).format(n), f"{1024 * (many - two) * every / n:,.0f}", each)
 
 
 def script(turns):
@@ -170,21 +179,21 @@ def counted(b):
     """Prints what is counted in instructions, for which the machine may be busy."""
     if not shutil.which("valgrind"):
         return
-    print("\n## Instructions\n\nCommand: `valgrind --tool=callgrind PROGRAM ..`.\n\n| What | Instructions |\n|---|---|")
+    begin("Instructions", "Command: `valgrind --tool=callgrind PROGRAM ..`.")
     for words in ("spawn", "pair", "large", "sleeps"):
         few, many = (b.instructions([b.bench, "turns", words, str(n)]) for n in (1000, 11000))
-        print(f"| one of `turns {words} N` | {(many - few) / 10000:.0f} |", flush=True)
+        row(f"one of turns {words} N", f"{(many - few) / 10000:,.0f}")
     for words in ("chain", "hand"):
         few, many = (b.instructions([b.bench, "forms", words, "1", str(n)]) for n in (1000, 11000))
-        print(f"| a poll of `forms {words} 1 N` | {(many - few) / 30000:.1f} |", flush=True)
+        row(f"a poll of forms {words} 1 N", f"{(many - few) / 30000:.1f}")
     whole = []
     for turns in (10, 110):
         with open(b.path("script"), "w", encoding="ascii") as out:
             out.write(script(turns))
         whole.append(b.instructions([b.program, "run", "0", "65536"], b.path("script")))
-    print(f"| a turn of a script's task in `monoio run` | {(whole[1] - whole[0]) / 1000:.0f} |", flush=True)
+    row("a turn in monoio run", f"{(whole[1] - whole[0]) / 1000:,.0f}")
     for work in WHEEL:
-        print(f"| `wheel {work} 1000` | {b.instructions([b.bench, 'wheel', work, '1000'])} |", flush=True)
+        row(f"wheel {work} 1000", f"{b.instructions([b.bench, 'wheel', work, '1000']):,}")
 
 
 WHEEL = ("insert_fire", "insert_cancel", "reset_later", "short_ticks", "far_jump", "next_expiration", "far_many")
@@ -204,35 +213,34 @@ def originals(b):
     if not os.environ.get("ANCHORS"):
         return
     count = 1000000
-    print("\n## Tasks beside the original's\n\nCommand: `mono_bench turns WORD N`, nanoseconds of processor time each.\n")
-    print("| Each | Ratio | Time, ns | Original, ns |\n|---|---|---|---|")
+    begin("Tasks beside the original's", "Command: `mono_bench turns WORD N`, nanoseconds of processor time each.")
+    row("", "ns", "ratio", "original ns")
     for each, word, n, work in (
-        ("a spawn with its turn, `spawn`", "spawn", count, "spawn_turn"),
-        ("a wake with its turn, `pair`", "pair", 10 * count, "yield_turn"),
-        ("a task that sleeps once, `sleeps`", "sleeps", count, "load_tasks"),
+        ("spawn: with its turn", "spawn", count, "spawn_turn"),
+        ("pair: a wake with its turn", "pair", 10 * count, "yield_turn"),
+        ("sleeps: a task that sleeps once", "sleeps", count, "load_tasks"),
     ):
         ours = 1e9 * min(b.once([b.bench, "turns", word, str(n)], None)[0] for _ in range(b.runs)) / n
         theirs = anchor(work, "orig-task", count, 3)
-        print(f"| {each} | {ours / theirs:.2f} | {ours:.0f} | {theirs:.0f} |", flush=True)
+        row(each, f"{ours:,.0f}", f"{ours / theirs:.2f}", f"{theirs:,.0f}")
 
 
 def wheel(b):
     ratio = ", by those of the original, and as they are" if os.environ.get("ANCHORS") else ""
-    print(f"\n## Wheel\n\nCommand: `mono_bench wheel WORKLOAD N timed RUNS`, nanoseconds a key of the best run{ratio}.\n")
+    begin("Wheel", f"Command: `mono_bench wheel WORKLOAD N timed RUNS`, nanoseconds a key of the best run{ratio}.")
     counts = [(1000, 101), (100000 // b.by, 9), (1000000 // b.by, 3)]
-    print("| Workload | " + " | ".join(f"{count:,}" for count, _ in counts) + " |\n|---|---|---|---|")
+    row("N", *(f"{count:,}" for count, _ in counts))
     for work in WHEEL:
         cells = []
         for count, runs in counts:
             if work == "far_many" and count > 1000:
-                cells.append("")
                 continue
             done = subprocess.run([b.bench, "wheel", work, str(count), "timed", str(runs)], capture_output=True, text=True, check=True)
             cells.append(re.search(r" ns ([\d.]+)", done.stdout)[1])
             other = None if work in ("reset_later", "far_many") else anchor(work, "orig-packed", count, runs)
             if other:
                 cells[-1] = f"{float(cells[-1]) / other:.2f} ({cells[-1]})"
-        print(f"| `{work}` | " + " | ".join(cells) + " |", flush=True)
+        row(work, *cells)
 
 
 def main():

@@ -66,7 +66,7 @@ def channels(b):
     count, runs = "1000000", b.runs
     b.runs = 7
     words = ("mpsc", "permits", "oneshot", "waits", "threads")
-    rows = [(f"`{word} {count}`", [b.bench, "channels", word, count], [program, word, count], None) for word in words]
+    rows = [(f"{word} {count}", [b.bench, "channels", word, count], [program, word, count], None) for word in words]
     b.table("Channels", "mono_bench channels WORKLOAD N", rows, "tokio")
     b.runs = runs
     jobs(b, program)
