@@ -50,6 +50,11 @@ def memory(program, folder):
     return (peaks[1] - peaks[0]) / 1024
 
 
+def print_each(what, figures):
+    """Prints one line with the figure of each program."""
+    print(f"{what}: " + ", ".join(f"{pathlib.Path(program).name} {figure:,.0f}" for program, figure in figures.items()), flush=True)
+
+
 def main():
     programs = sys.argv[1:3]
     count = int(sys.argv[3]) if len(sys.argv) > 3 else 3000000
@@ -64,8 +69,7 @@ def main():
             for program in programs * 8:
                 seconds, _ = run(program, cores, folder / "lines", folder)
                 best[program, cores] = max(best.get((program, cores), 0), count / seconds)
-            for program in programs:
-                print(f"{pathlib.Path(program).name}, {cores} cores: {best[program, cores]:,.0f} requests a second", flush=True)
+            print_each(f"requests a second, {cores} cores", {program: best[program, cores] for program in programs})
             if cores == 2:
                 (folder / "lines").rename(folder / "two")
         driver = folder / "latency"
@@ -75,8 +79,7 @@ def main():
             rate = best[program, 2] / 2
             told = latencies(driver, program, 2, folder / "two", rate)
             print(f"{pathlib.Path(program).name}: latency at {rate:,.0f} a second: {told}", flush=True)
-        for program in programs:
-            print(f"{pathlib.Path(program).name}: {held[program]:,.0f} MiB for 1,000,000 leases", flush=True)
+        print_each("MiB for 1,000,000 leases", held)
 
 
 if __name__ == "__main__":
