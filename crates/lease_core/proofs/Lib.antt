@@ -9,3 +9,5 @@ pub mod LookLemmas
 pub mod ServiceLemmas
 pub mod CountLemmas
 pub mod RouteLemmas
+pub mod DueListLemmas
+pub mod ContinueLemmas

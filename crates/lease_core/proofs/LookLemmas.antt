@@ -1,5 +1,5 @@
 -- A core after a try, and after a question.
-use Rattle.std.proofs.Common.{◌≡◌, ℕ, List, [], ◌∷◌, length, Option, refl, sym, ap, subst, ◌∙◌, inl}
+use Rattle.std.proofs.Common.{◌≡◌, ℕ, [], ◌∷◌, length, Option, refl, sym, ap, subst, ◌∙◌, inl}
 use Rattle.mono_model.specs.Table.{count_of}
 use Rattle.mono_session.specs.Keeper.{Keeper, acquired, owner_answer}
 use Rattle.mono_session.specs.Calls as lease

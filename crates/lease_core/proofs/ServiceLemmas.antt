@@ -116,7 +116,7 @@ ended_turn_value true v old a = refl
 ended_turn_value false None old a = refl
 ended_turn_value false (Some actor) old a = picked_turn (length actor.mailbox == 0) _ _ old refl refl
 
-ended_turn : (stop : Bool) (old : Actors ℕ) (a : ℕ) → (ended stop old a).turn ≡ None
+pub ended_turn : (stop : Bool) (old : Actors ℕ) (a : ℕ) → (ended stop old a).turn ≡ None
 ended_turn stop old a = ended_turn_value stop (value_at old.table a) (no_turn old) a
 
 -- The core refines the state after a step of its mailboxes.

@@ -1,5 +1,6 @@
--- Each request is answered exactly once, and at most one session on all cores holds the lock of a key.
-use Rattle.std.specs.Prelude.{◌≡◌, ℕ, ◌+◌, List, [], ◌∷◌, map, Some}
+-- Each request is answered exactly once, each run can be continued, and at most one session on all cores holds the lock of a key.
+use Rattle.std.specs.Prelude.{◌≡◌, ◌≤◌, ℕ, ◌+◌, List, [], ◌∷◌, ◌++◌, map, Some}
+use Rattle.mono_model.specs.Ticks.{max_nanos}
 use Rattle.mono_model.specs.Valid.{times}
 use Rattle.mono_session.specs.Keeper.{owner_answer}
 use Rattle.lease_core.specs.declared.sizes.Sizes.{Sizes}
@@ -32,6 +33,18 @@ AnsweredOnce = (events : List Event) (replies : List Reply) (old new : CoreState
 -- Nothing waits after the end of the input.
 abbrev pub NoneWaitAtTheEnd : Type 0
 NoneWaitAtTheEnd = (replies : List Reply) (old new : CoreState) → Run old (Finish ∷ []) replies new → new.waiting ≡ []
+
+-- The clock may show each reading.
+abbrev pub AreReadings : List Event → Type 0
+AreReadings [] = Unit {0}
+AreReadings (Advance n ∷ events) = (n ≤ max_nanos) × AreReadings events
+AreReadings (Handle request ∷ events) = AreReadings events
+AreReadings (Finish ∷ events) = AreReadings events
+
+-- Each run from a new core can be continued: whatever comes next has replies, if the clock may show its readings.
+abbrev pub RunsContinue : Type 0
+RunsContinue = (sizes : Sizes) (events later : List Event) (replies : List Reply) (last : CoreState) → AreReadings later → Run (new_core sizes) events replies last
+    → (more : List Reply) × (end : CoreState) × Run (new_core sizes) (events ++ later) (replies ++ more) end
 
 -- Each request is of a key of this core.
 abbrev pub AreRouted : ℕ → ℕ → List Event → Type 0

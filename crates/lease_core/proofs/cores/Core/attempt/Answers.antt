@@ -1,4 +1,4 @@
-use Rattle.std.proofs.Common.{refl, true, false}
+use Rattle.std.proofs.Common.{refl, true}
 use Rattle.lease_core.proofs.LeaseLemmas.{acquire_step, acquire_first, one_reply}
 use Rattle.lease_core.proofs.LookLemmas.{try_refused, try_held, try_busy}
 use Rattle.lease_core.proofs.UndoLemmas.{undone_step}
