@@ -2,7 +2,7 @@
 use crate::parkers::start_setting;
 use mono_driver::*;
 use mono_inbox::Unpark;
-use mono_model::{Host, MAX_NANOS};
+use mono_model::Host;
 use std::alloc::Global;
 use std::process::Abort;
 use std::sync::atomic::Ordering;
@@ -18,14 +18,6 @@ fn clock_of<R: Abort>(rt: &R, alloc: Global, readings: &[u128]) -> ListClock {
     }
     assert!(rt; !instants.is_empty());
     ListClock::new(instants)
-}
-
-#[test]
-fn a_list_clock_reads_its_list(rt: HostRuntime) {
-    let mut clock = clock_of(&rt, rt.alloc(), &[5, 7, 6]);
-    for nanos in [5u128, 7, 6, 6, 6] {
-        assert!(rt; clock.now().as_nanos() == nanos);
-    }
 }
 
 /// Makes each call of a driver once, and returns its reading then. The park was unparked before.
@@ -56,61 +48,6 @@ fn each_call_of_each_driver(rt: HostRuntime) {
         calls_all(&rt, &mut timed),
     ];
     assert!(rt; told == [3000000, 6000000, 6000000, 7, 9]);
-}
-
-/// More calls than a vector makes room for at first.
-const MANY: u64 = 400;
-
-/// One call on a driver.
-#[derive(Clone, Copy)]
-enum Call {
-    Submit,
-    Park,
-    /// A park of at most this many seconds.
-    ParkTimeout(u64),
-}
-
-/// Makes the call, and returns whether it has this answer and the driver then reads this many nanoseconds.
-fn answers<R: Host, D: Driver>(
-    rt: &R,
-    driver: &mut D,
-    call: Call,
-    is_ok: bool,
-    nanos: u128,
-) -> bool {
-    let answer = match call {
-        Call::Submit => driver.submit(rt),
-        Call::Park => driver.park(rt),
-        Call::ParkTimeout(seconds) => driver.park_timeout(rt, Duration::from_secs(seconds)),
-    };
-    answer.is_ok() == is_ok && driver.now().as_nanos() == nanos
-}
-
-/// The calls before those that all fail; the second of these four is listed to fail.
-const FIRST_CALLS: [(Call, bool, u128); 4] = [
-    (Call::Submit, true, 0),
-    (Call::ParkTimeout(1), false, 0),
-    (Call::Park, true, 0),
-    (Call::ParkTimeout(1), true, 1_000_000_000),
-];
-
-#[test]
-fn listed_calls_fail(rt: HostRuntime) {
-    let mut failing = Vec::new(rt.alloc());
-    failing.push(1).expect(&rt, "memory");
-    for call in 4..MANY {
-        failing.push(call).expect(&rt, "memory");
-    }
-    let mut driver = StepDriver::new(failing);
-    let mut are_so = driver.now().as_nanos() == 0;
-    for (call, is_ok, nanos) in FIRST_CALLS {
-        are_so = answers(&rt, &mut driver, call, is_ok, nanos) & are_so;
-    }
-    for _ in 4..MANY {
-        are_so = answers(&rt, &mut driver, Call::Submit, false, 1_000_000_000) & are_so;
-    }
-    let last = Call::ParkTimeout(u64::MAX);
-    assert!(rt; are_so & answers(&rt, &mut driver, last, true, MAX_NANOS));
 }
 
 /// Returns whether a park sees the flag that another thread sets before it unparks.

@@ -124,13 +124,6 @@ fn goes_once<R: Host + Abort>(rt: &R, registry: &Inboxes, number: u64) -> bool {
     goes & is_gone & !registry.unregister(rt, number)
 }
 
-#[test]
-fn a_registry_counts_from_sixteen(rt: HostRuntime) {
-    let registry = Registry::new(rt.alloc());
-    assert!(rt; are_registered(&rt, rt.alloc(), &registry) && goes_once(&rt, &registry, 16));
-    registered(&rt, rt.alloc(), &registry, 18);
-}
-
 /// Returns whether the second of two inboxes is removed and the first one stays, and the second then gets a new number.
 fn tells_apart<R: Host + Abort>(rt: &R, alloc: Global, registry: &Inboxes) -> bool {
     let second = inbox_of(rt, registry, 17).expect(rt, "an inbox");

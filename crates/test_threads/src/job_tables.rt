@@ -1,7 +1,7 @@
-// Jobs by each strategy and on a pool of the tests: each call on its happy path, and each refusal once.
+// Jobs on a pool of the tests: each call on its happy path, and a refusal by the pool.
 use crate::jobs::{Gives, waker};
 use crate::keeps::{Keeps, Waiting, pool_refusing, run_all};
-use mono_blocking::{BlockingHandle, BlockingStrategy, JoinError, *};
+use mono_blocking::{BlockingHandle, JoinError, *};
 use mono_machine::{How, Refusal, Reply};
 use mono_model::{Host, Poll};
 use std::alloc::Global;
@@ -135,55 +135,8 @@ fn all_answer_by<R: Host + Abort>(
     jobs.into_pool()
 }
 
-/// Makes the calls without a pool.
-fn all_answer_without<R: Host + Abort>(
-    rt: &R,
-    alloc: Global,
-    strategy: BlockingStrategy,
-    limit: u64,
-    rows: &[Row],
-) {
-    let (_pool, waiting) = pool_refusing(rt, alloc, 0);
-    let strategy = BlockingHandle::Empty(strategy);
-    let pool = all_answer_by(rt, alloc, strategy, limit, &waiting, rows);
-    assert!(rt; pool.is_none());
-}
-
 /// More jobs than a table makes room for at first.
 const MANY: u64 = 300;
-
-// A job on the caller has ended.
-const ON_THE_CALLER: [Row; 10] = [
-    (Call::Spawn(4), Reply::Job(0), None),
-    (Call::Spawn(5), Reply::Job(1), None),
-    (Call::Spawn(6), Reply::Refused(Refusal::AtCapacity), None),
-    (Call::HasEnded(0), Reply::Yes, None),
-    (Call::Poll(0, 3), Reply::Output(4), None),
-    (Call::Poll(0, 3), Reply::Refused(Refusal::Taken), None),
-    (Call::HasEnded(0), Reply::Yes, None),
-    (Call::Drop(1), Reply::Dropped(Some(5)), None),
-    (Call::Drop(1), Reply::Refused(Refusal::NoHandle), None),
-    (Call::HasEnded(2), Reply::Refused(Refusal::NoTask), None),
-];
-
-// No pool is refused after at capacity.
-const WITH_ROOM: [Row; 1] = [(Call::Spawn(4), Reply::Refused(Refusal::NoPool), None)];
-
-const WITHOUT_ROOM: [Row; 1] = [(Call::Spawn(4), Reply::Refused(Refusal::AtCapacity), None)];
-
-/// The strategy without a pool, the limit of its jobs, and the calls.
-const WITHOUT_A_POOL: [(BlockingStrategy, u64, &[Row]); 3] = [
-    (BlockingStrategy::ExecuteLocal, 2, &ON_THE_CALLER),
-    (BlockingStrategy::Panic, 1, &WITH_ROOM),
-    (BlockingStrategy::Panic, 0, &WITHOUT_ROOM),
-];
-
-#[test]
-fn jobs_without_a_pool(rt: HostRuntime) {
-    for (strategy, limit, rows) in WITHOUT_A_POOL {
-        all_answer_without(&rt, rt.alloc(), strategy, limit, rows);
-    }
-}
 
 // A refused task makes no job.
 const ONE_REFUSED: [Row; 5] = [
@@ -238,82 +191,6 @@ fn jobs_on<R: Abort>(rt: &R, alloc: Global, limit: u64) -> (Blockings<Keeps>, Wa
     let (pool, waiting) = pool_refusing(rt, alloc, u64::MAX);
     let jobs = Blockings::new(alloc, BlockingHandle::Attached(pool), limit);
     (jobs, waiting)
-}
-
-/// Jobs past the second page of the table.
-const THROUGH: u64 = 600;
-
-/// How many jobs live in addition to the first one, once this many were made.
-const ALIVE: u64 = 10;
-
-/// Returns the output that a drop hands back, or 0.
-fn output_of(answer: Result<Option<Result<u64, JoinError>>, Refusal>) -> u64 {
-    match answer {
-        Ok(Some(Ok(output))) => output,
-        _ => 0,
-    }
-}
-
-/// Makes and runs one job, and drops the job made `ALIVE` jobs before. Returns its output, or 0 if there was none or if
-/// it is still there.
-fn one_comes_one_goes<R: Host + Abort>(
-    rt: &R,
-    alloc: Global,
-    jobs: &mut Blockings<Keeps>,
-    waiting: &Waiting,
-    number: u64,
-) -> u64 {
-    let made = jobs.spawn(rt, alloc, Gives(number));
-    assert!(rt; spawned(made, number) == Reply::Job(number));
-    run_all(rt, waiting, MANY);
-    let gone = number.saturating_sub(ALIVE);
-    if gone == 0 {
-        return 0;
-    }
-    let output = output_of(jobs.drop_handle(gone).answer);
-    if jobs.has_ended(gone).is_ok() {
-        0
-    } else {
-        output
-    }
-}
-
-const FIRST: [Row; 1] = [(Call::Spawn(7), Reply::Job(0), None)];
-
-const AFTER_ALL: [Row; 19] = [
-    (Call::HasEnded(1), Reply::Refused(Refusal::NoHandle), None),
-    (Call::Drop(1), Reply::Refused(Refusal::NoHandle), None),
-    (Call::HasEnded(255), Reply::Refused(Refusal::NoHandle), None),
-    (Call::Drop(255), Reply::Refused(Refusal::NoHandle), None),
-    (Call::HasEnded(256), Reply::Refused(Refusal::NoHandle), None),
-    (Call::Drop(256), Reply::Refused(Refusal::NoHandle), None),
-    (Call::HasEnded(511), Reply::Refused(Refusal::NoHandle), None),
-    (Call::Drop(511), Reply::Refused(Refusal::NoHandle), None),
-    (Call::HasEnded(512), Reply::Refused(Refusal::NoHandle), None),
-    (Call::Drop(512), Reply::Refused(Refusal::NoHandle), None),
-    (Call::HasEnded(589), Reply::Refused(Refusal::NoHandle), None),
-    (Call::Drop(589), Reply::Refused(Refusal::NoHandle), None),
-    (Call::HasEnded(600), Reply::Refused(Refusal::NoTask), None),
-    (Call::HasEnded(590), Reply::Yes, None),
-    (Call::Poll(0, 3), Reply::Output(7), RAN),
-    (Call::Spawn(8), Reply::Job(600), None),
-    (Call::Spawn(9), Reply::Refused(Refusal::AtCapacity), None),
-    (Call::Drop(0), Reply::Dropped(None), None),
-    (Call::HasEnded(0), Reply::Refused(Refusal::NoHandle), None),
-];
-
-#[test]
-fn the_first_job_outlives_pages(rt: HostRuntime) {
-    let alloc = rt.alloc();
-    let (mut jobs, waiting) = jobs_on(&rt, alloc, ALIVE.wrapping_add(2));
-    all_answer(&rt, alloc, &mut jobs, &waiting, &FIRST);
-    let mut sum = 0u64;
-    for number in 1..THROUGH {
-        let output = one_comes_one_goes(&rt, alloc, &mut jobs, &waiting, number);
-        sum = sum.wrapping_add(output);
-    }
-    assert!(rt; sum == 173755);
-    all_answer(&rt, alloc, &mut jobs, &waiting, &AFTER_ALL);
 }
 
 /// Returns the calls on a job before it ran and after it: its end is seen once, with its waiter, and the drop after it

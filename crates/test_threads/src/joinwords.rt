@@ -36,41 +36,11 @@ fn the_waker_comes_back_and_then_the_output(rt: HostRuntime) {
 }
 
 #[test]
-fn a_cancelled_word_drops_the_output(rt: HostRuntime) {
-    let (runner, joiner) = pair::<u64, Named>(rt.alloc(), 4).expect(&rt, "memory");
-    let is_canceled = joiner.cancel().is_none();
-    let done = runner.complete(Ok(4));
-    assert!(rt; is_canceled & done.dropped & done.woke.is_none());
-}
-
-#[test]
-fn a_canceled_job_is_told(rt: HostRuntime) {
-    let (runner, mut joiner) = pair::<u64, Named>(rt.alloc(), 4).expect(&rt, "memory");
-    let was_finished = joiner.is_finished();
-    let done = runner.complete(Err(JoinError::Canceled));
-    assert!(rt; !was_finished & !done.dropped & done.woke.is_none() & joiner.is_finished());
-    assert!(rt; joiner.cancel() == Some(Err(JoinError::Canceled)));
-}
-
-#[test]
 fn a_runner_that_is_let_go_cancels(rt: HostRuntime) {
     let (runner, mut joiner) = pair::<(), Named>(rt.alloc(), 0).expect(&rt, "memory");
     assert!(rt; joiner.poll(Named(7)).is_pending());
     drop(runner);
     assert!(rt; joiner.poll(Named(7)) == Poll::Ready(Err(JoinError::Canceled)));
-}
-
-#[test]
-fn the_latest_waker_alone_comes_back(rt: HostRuntime) {
-    let (runner, mut joiner) = pair::<bool, Named>(rt.alloc(), 1).expect(&rt, "memory");
-    for number in [7, 7, 8] {
-        if !joiner.is_taken() {
-            assert!(rt; joiner.poll(Named(number)).is_pending());
-        }
-    }
-    let done = runner.complete(Ok(true));
-    assert!(rt; woken(done.woke) == 8);
-    assert!(rt; joiner.cancel_with_seat().output == Some(Ok(true)));
 }
 
 // An output that counts how often one is dropped.

@@ -23,48 +23,6 @@ fn takes<R: Host + Abort>(rt: &R, alloc: Global, inbox: &Inbox<NoUnpark>, waitin
     tasks.as_slice() == waiting
 }
 
-/// The row begins at 3 and ends before 10,000, past two pages of marks.
-const KNOWN: &[(u64, bool)] = &[
-    (2, false),
-    (3, true),
-    (3, false),
-    (9999, true),
-    (10000, false),
-    (4096, true),
-];
-
-/// Then 3, 5,000 and 9,999 are forgotten, one of which waits.
-const FORGOTTEN: &[(u64, bool)] = &[
-    (3, false),
-    (5000, false),
-    (5001, true),
-    (9999, false),
-    (4096, true),
-];
-
-/// Returns whether a row is known, and all woken tasks are taken.
-fn is_known<R: Host + Abort>(rt: &R, alloc: Global, inbox: &Inbox<NoUnpark>) -> bool {
-    let first = inbox.lock(rt).know_row(alloc, 3, 10000);
-    let second = inbox.lock(rt).know_row(alloc, 7, 7);
-    let third = inbox.lock(rt).know_row(alloc, 20000, 5);
-    let are_known = (first == 10000) & (second == 7) & (third == 20000);
-    are_known & is_listed_so(rt, inbox, KNOWN) & takes(rt, alloc, inbox, &[3, 9999, 4096])
-}
-
-/// Returns whether some of the row is forgotten, and one task waits.
-fn is_forgotten<R: Host + Abort>(rt: &R, alloc: Global, inbox: &Inbox<NoUnpark>) -> bool {
-    let waits = is_listed_so(rt, inbox, &[(9999, true)]);
-    inbox.retire_all(rt, &[3, 5000, 9999]);
-    waits & is_listed_so(rt, inbox, FORGOTTEN) & takes(rt, alloc, inbox, &[9999, 5001, 4096])
-}
-
-#[test]
-fn a_row_is_known_and_some_of_it_is_forgotten(rt: HostRuntime) {
-    let alloc = rt.alloc();
-    let inbox = Inbox::new(alloc, 4, NoUnpark).expect(&rt, "memory");
-    assert!(rt; is_known(&rt, alloc, &inbox) && is_forgotten(&rt, alloc, &inbox));
-}
-
 /// Appends the tasks from the first number to that before the end, in order.
 fn add_row<R: Host + Abort>(rt: &R, tasks: &mut Vec<u64>, from: u64, until: u64) {
     for task in from..until {

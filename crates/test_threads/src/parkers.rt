@@ -1,5 +1,5 @@
-// Tokens and parkers, and parks that another thread ends.
-use mono_inbox::{Parker, Token, Unpark, UnparkHandle};
+// Parkers, and parks that another thread ends.
+use mono_inbox::{Parker, Unpark, UnparkHandle};
 use mono_model::Host;
 use std::alloc::Global;
 use std::process::Abort;
@@ -8,17 +8,6 @@ use std::sync::atomic::{AtomicU64, Ordering};
 use std::thread::JoinHandle;
 use std::time::Duration;
 use std::{thread, time};
-
-#[test]
-fn a_token_is_taken_once(rt: HostRuntime) {
-    let mut token = Token::new();
-    let early = token.take();
-    token.set();
-    token.set();
-    let first = token.take();
-    let second = token.take();
-    assert!(rt; !early & first & !second);
-}
 
 /// Returns a handle that ends a park of this parker.
 pub(crate) fn handle_of<R: Abort>(rt: &R, parker: &Parker) -> UnparkHandle {
@@ -70,16 +59,6 @@ fn parks_for_the_flag<R: Host + Abort + Copy + Send + 'static>(
     let was_set = flag.load(Ordering::SeqCst) == 1;
     other.join(&rt);
     was_set
-}
-
-#[test]
-fn a_park_ends_by_another_thread(rt: HostRuntime) {
-    let parker = Parker::new(rt.alloc()).expect(&rt, "memory");
-    let early = handle_of(&rt, &parker);
-    let (_flag, other) = start_setting(rt, rt.alloc(), early, Duration::ZERO);
-    other.join(&rt);
-    parker.park(&rt);
-    assert!(rt; parks_for_the_flag(rt, rt.alloc(), &parker, false));
 }
 
 #[test]

@@ -149,37 +149,6 @@ fn two_threads_count_their_wakes(rt: HostRuntime) {
     assert!(rt; two_callers::<Brand, _>(rt, rt.alloc(), Blank::new(2)) == 200);
 }
 
-/// Returns whether the first wake is kept and counted, and the second is not, since the state then keeps no more calls.
-fn counts_one<L: Ledger, R: Host>(
-    rt: &R,
-    waker: &RecordedWaker<NoUnpark, L>,
-    share: &mut CallShare<L>,
-) -> bool {
-    if share.calls() != 0 {
-        return false;
-    }
-    let first = waker.wake_with(rt, share);
-    if share.calls() != 1 {
-        return false;
-    }
-    let second = waker.wake_with(rt, share);
-    matches!(first, PutReply::Kept(true)) && matches!(second, PutReply::Unkept(false))
-}
-
-fn full_state<L: Ledger, R: Host + Abort>(rt: &R, alloc: Global, blank: Blank)
-    requires { (blank.name ≡ L.name) × (blank.parts ≡ L.parts) × (blank.parts ≡ 1) }
-{
-    let (inbox, mut shares) = opened::<L, R>(rt, alloc, 4, 2, 1, blank);
-    let waker = inbox.waker(rt, alloc, 7).expect(rt, "memory");
-    let is_counted = counts_one(rt, &waker, shares.last_mut().expect(rt, "a share"));
-    assert!(rt; is_counted && matches!(inbox.gather(rt, shares), Ok(1)));
-}
-
-#[test]
-fn a_full_state_counts_no_more(rt: HostRuntime) {
-    full_state::<Brand, _>(&rt, rt.alloc(), Blank::new(1));
-}
-
 /// Asserts that a wake ends a park, without a share and with one.
 fn wakes_end_parks<L: Ledger, R: Host + Abort>(rt: &R, alloc: Global, blank: Blank)
     requires { (blank.name ≡ L.name) × (blank.parts ≡ L.parts) × (blank.parts ≡ 1) }
