@@ -6,7 +6,7 @@ ghost use Rattle.mono_model.specs.Joins.{wake_answer};
 ghost use Rattle.mono_task.specs.Work.{without_outputs};
 
 use mono_model::{Host, Poll};
-use mono_task::{Context, JoinContext, TaskError, TaskFuture, Tasks, Woke};
+use mono_task::{Context, TaskError, TaskFuture, Tasks, Woke};
 use std::alloc::Global;
 use std::process::Abort;
 
@@ -54,26 +54,6 @@ impl Context for Board {
     ghost same_nanos = { λ a b r. refl };
 
     ghost stays_out_of_memory = { λ a b r h. refl };
-}
-
-impl JoinContext<u64> for Board {
-    ghost tasks = { λ c. c.tasks.tasks };
-
-    fn poll_join(&mut self, task: u64) -> Result<Poll<u64>, TaskError> {
-        self.tasks.poll_join(task, 0)
-    }
-
-    fn drop_join(&mut self, task: u64) -> Result<Option<u64>, TaskError> {
-        self.tasks.drop_join(task)
-    }
-
-    fn is_finished(&self, task: u64) -> Result<bool, TaskError> {
-        self.tasks.is_finished(task)
-    }
-
-    ghost same_work = { λ c. refl };
-
-    ghost wakes_tasks = { λ c d t r w. w.1 };
 }
 
 impl Board {

@@ -1,10 +1,5 @@
 //! A user's deadlines over the timers.
-ghost use Rattle.std.specs.Prelude.{◌≡◌, ◌<◌};
-
 use crate::desks::at_millis;
-use mono_wheel::Steps;
-use std::marker::Brand;
-use std::sync::ledger::{Blank, Ledger};
 use use_deadlines::Sessions;
 
 // Returns whether these sessions have expired at a time, after the earlier ones of the list.
@@ -32,32 +27,4 @@ fn sessions_expire_in_order(rt: HostRuntime) {
     let second = sessions.open(rt.alloc(), at_millis(10));
     let are_open = (first, second) == (Ok(0), Ok(1));
     assert!(rt; are_open && expire_in_order(&mut sessions, &mut gone));
-}
-
-fn expired<L: Ledger>(sessions: &mut Sessions, millis: u32, blank: Blank) -> Option<u64>
-    requires { (blank.name ≡ L.name) × (blank.parts ≡ L.parts) × (0 < L.parts) }
-{
-    let mut steps: Steps<L> = Steps::new(blank);
-    sessions.expire(at_millis(millis), &mut steps)
-}
-
-// Returns the next session that has expired at a time.
-fn next_gone(sessions: &mut Sessions, millis: u32) -> Option<u64> {
-    expired::<Brand>(sessions, millis, Blank::new(1))
-}
-
-// Returns whether a session until 10 ms expires then, and not before: it cannot be moved any more, and no other
-// expires.
-fn is_gone(sessions: &mut Sessions) -> bool {
-    let none = next_gone(sessions, 9);
-    let first = next_gone(sessions, 10);
-    let is_refused = sessions.touch(0, at_millis(30)).is_err();
-    is_refused && [none, first, next_gone(sessions, 30)] == [None, Some(0), None]
-}
-
-#[test]
-fn an_expired_session_is_gone(rt: HostRuntime) {
-    let mut sessions = Sessions::new(rt.alloc(), 8).expect(&rt, "memory");
-    let is_open = sessions.open(rt.alloc(), at_millis(10)) == Ok(0);
-    assert!(rt; is_open && is_gone(&mut sessions));
 }

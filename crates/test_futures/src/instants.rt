@@ -1,28 +1,5 @@
-use mono_model::MAX_NANOS;
 use mono_time::*;
 use std::io;
-use std::time::Duration;
-
-fn have_an_end() -> bool {
-    Instant::from_nanos(MAX_NANOS).is_some() && Instant::from_nanos(MAX_NANOS + 1) == None
-}
-
-fn are_counted(five: Instant, six: Instant, nine: Instant) -> bool {
-    five.checked_add(Duration::from_nanos(1)) == Some(six)
-        && five.checked_sub(Duration::from_nanos(6)) == None
-        && five.saturating_duration_since(nine).as_nanos() == 0
-        && five.checked_duration_since(nine).is_none()
-        && five.as_nanos() == 5
-        && five < nine
-}
-
-#[test]
-fn instants(rt: HostRuntime) {
-    let five = Instant::from_nanos(5).expect(&rt, "5");
-    let six = Instant::from_nanos(6).expect(&rt, "6");
-    let nine = Instant::from_nanos(9).expect(&rt, "9");
-    assert!(rt; have_an_end() && are_counted(five, six, nine));
-}
 
 #[test]
 fn texts(rt: HostRuntime) {

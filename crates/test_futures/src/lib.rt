@@ -1,5 +1,5 @@
-//! Tests of the wheel and its lists, the tables, tasks, instants, timers, combined futures, streams and the nest, over
-//! their public calls.
+//! Tests of the wheel and its lists, the tables, tasks, instants, timers, combined futures, streams, the nest, retries
+//! and a core of the lease server, over their public calls.
 #![tactic(auto)]
 
 #[cfg(test)]
@@ -11,13 +11,11 @@ mod deadlines;
 #[cfg(test)]
 mod desks;
 #[cfg(test)]
-mod examples;
-#[cfg(test)]
-mod far_wheels;
-#[cfg(test)]
 mod instants;
 #[cfg(test)]
 mod interval_ticks;
+#[cfg(test)]
+mod leases;
 #[cfg(test)]
 mod lent;
 #[cfg(test)]
@@ -28,6 +26,8 @@ mod many;
 mod nests;
 #[cfg(test)]
 mod pulses;
+#[cfg(test)]
+mod retries;
 #[cfg(test)]
 mod stream_adapters;
 #[cfg(test)]

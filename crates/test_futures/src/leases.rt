@@ -1,5 +1,5 @@
-// One core: hundreds of waits.
-use lease_core::{Call, Core, Outcome, Reply, Request, Sizes};
+// One core of the lease server: hundreds of waits.
+use lease_core::{Call, Core, Outcome, Reply, Request, Sizes, core_of};
 use mono_time::Instant;
 use std::alloc::Global;
 
@@ -65,32 +65,6 @@ fn answers(core: &Core, at: usize, number: u64, tick: u64, outcome: Outcome) -> 
         })
 }
 
-// Lets the last session leave the queues, and returns how many releases answered exactly the waiter of their key.
-fn release_all(alloc: Global, core: &mut Core) -> u64 {
-    let mut right = 0u64;
-    for turn in 0..LAST {
-        let key = turn * 7 % LAST;
-        let count = ask(alloc, core, 3, key, Call::Release(LAST));
-        if count == 2 && answers(core, 1, waits_as(key), 0, Outcome::Held) {
-            right = right.saturating_add(1);
-        }
-    }
-    right
-}
-
-#[test]
-fn each_release_answers_its_own_waiter(rt: HostRuntime) {
-    let alloc = rt.alloc();
-    let mut core = Core::new(alloc, &SIZES).expect(&rt, "memory");
-    open_all(alloc, &mut core);
-    acquire_all(alloc, &mut core);
-    assert_eq!(rt; core.waiting(), 0);
-    acquire_own(alloc, &mut core);
-    assert_eq!(rt; core.waiting(), 300);
-    assert_eq!(rt; release_all(alloc, &mut core), 300);
-    assert_eq!(rt; core.waiting(), 0);
-}
-
 #[test]
 fn a_clock_step_answers_in_the_order_of_the_sessions(rt: HostRuntime) {
     let alloc = rt.alloc();
@@ -113,16 +87,14 @@ fn a_clock_step_answers_in_the_order_of_the_sessions(rt: HostRuntime) {
 }
 
 #[test]
-fn the_end_answers_in_the_order_of_the_waits(rt: HostRuntime) {
-    let alloc = rt.alloc();
-    let mut core = Core::new(alloc, &SIZES).expect(&rt, "memory");
-    open_all(alloc, &mut core);
-    acquire_own(alloc, &mut core);
-    acquire_all(alloc, &mut core);
-    core.finish();
-    assert_eq!(rt; core.replies().len(), 300);
-    for at in 0..300u64 {
-        assert!(rt; answers(&core, at as usize, 1299 - at, 0, Outcome::Ended));
+fn keys_spread(rt: HostRuntime) {
+    let mut first = 0usize;
+    for key in 0..1000u64 {
+        if core_of(key, 2) == 0 {
+            first = first.saturating_add(1);
+        }
     }
-    assert_eq!(rt; core.waiting(), 0);
+    assert!(rt; first > 400);
+    assert!(rt; first < 600);
+    assert_eq!(rt; core_of(1, 4), core_of(1, 4));
 }
