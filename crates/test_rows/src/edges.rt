@@ -1,8 +1,8 @@
-// Sources over readers and sinks over writers whose calls fail in turn.
+// A source over a reader whose calls fail in turn.
 ghost use Rattle.std.specs.Prelude.{◌≤◌, IfOk};
 
-use mono_text::{ReadSource, Sink, SinkFault, Source, SourceFault, WriteSink};
-use std::io::{self, ErrorKind, Read, Write};
+use mono_text::{ReadSource, Source, SourceFault};
+use std::io::{self, ErrorKind, Read};
 
 /// What a call of the system answers: a number of bytes at most, or an error of this kind.
 #[derive(Clone, Copy)]
@@ -11,7 +11,7 @@ enum Answer {
     Fails(ErrorKind),
 }
 
-/// A reader or writer with these answers, one for each call; after them each call moves nothing.
+/// A reader with these answers, one for each call; after them each call moves nothing.
 #[derive(Drop)]
 struct Scripted {
     answers: [Answer; 3],
@@ -19,7 +19,7 @@ struct Scripted {
 }
 
 impl Scripted {
-    /// Returns a reader or writer that was never called.
+    /// Returns a reader that was never called.
     fn new(answers: [Answer; 3]) -> Scripted {
         Scripted { answers, calls: 0 }
     }
@@ -41,16 +41,6 @@ impl Scripted {
 impl Read for Scripted {
     fn read(&mut self, buffer: &mut [u8]) -> io::Result<usize> {
         self.answer(buffer.len())
-    }
-}
-
-impl Write for Scripted {
-    fn write(&mut self, piece: &[u8]) -> io::Result<usize> {
-        self.answer(piece.len())
-    }
-
-    fn flush(&mut self) -> io::Result<()> {
-        Ok(())
     }
 }
 
@@ -78,17 +68,4 @@ fn a_failed_read_is_a_fault_and_no_end(rt: HostRuntime) {
     assert!(&rt; kind_of(source.error()) == Some(ErrorKind::BrokenPipe));
     assert!(&rt; source.read(&mut buffer) == Ok(4));
     assert!(&rt; source.read(&mut buffer) == Ok(0));
-}
-
-#[test]
-fn a_failed_write_is_a_fault_and_no_success(rt: HostRuntime) {
-    let mut sink = WriteSink::new(Scripted::new(IN_ORDER));
-    assert!(&rt; sink.write(b"abcd") == Ok(2));
-    assert!(&rt; kind_of(sink.error()) == None);
-    assert!(&rt; sink.write(b"cd") == Err(SinkFault));
-    assert!(&rt; kind_of(sink.error()) == Some(ErrorKind::BrokenPipe));
-    assert!(&rt; sink.write(b"cd") == Ok(2));
-    assert!(&rt; sink.write(b"ef") == Err(SinkFault));
-    assert!(&rt; kind_of(sink.error()) == None);
-    assert!(&rt; sink.write(b"") == Ok(0));
 }

@@ -1,92 +1,104 @@
-// Wrong inputs of each command, and the sentence about each.
+// Wrong lines and journals that are no run, and the sentence about each.
+use crate::complaints::words_of;
 use mono_model::Host;
 use mono_script::{
-    Instant, ListClock, NoSpawner, PlainSink, PlainSource, explained, line_sentence,
+    Ended, Instant, ListClock, NoSpawner, PlainSink, PlainSource, explained, failure_sentence,
+    line_sentence,
 };
-use std::alloc::{AllocError, Global};
-
-fn split(alloc: Global, text: &str) -> Result<Vec<String>, AllocError> {
-    let mut words = Vec::new(alloc);
-    for word in text.split(' ') {
-        words.push(String::from_str(alloc, word)?)?;
-    }
-    Ok(words)
-}
+use std::alloc::Global;
+use std::process::Abort;
 
 // Returns a clock that always reads its beginning.
-fn still_clock(alloc: Global) -> Option<ListClock> {
-    let mut readings = Vec::new(alloc);
-    readings.push(Instant::from_nanos(0)?).ok()?;
-    Some(ListClock::new(readings))
+fn still_clock<R: Abort>(rt: &R, alloc: Global) -> ListClock {
+    let zero = Instant::from_nanos(0).expect(rt, "an instant");
+    ListClock::new(vec![in alloc; zero].expect(rt, "memory"))
 }
 
-// The commands that read lines.
-#[derive(Clone, Copy)]
-enum Words {
-    Replay,
-    Check,
-    Run,
-    Sessions,
-    Limiter,
-    Actors,
-}
-
-impl Words {
-    // Returns the words of the command.
-    fn text(self) -> &'static str {
-        match self {
-            Words::Replay => "replay attached 16 16 16",
-            Words::Check => "check attached 16 16 16",
-            Words::Run => "run 0 100",
-            Words::Sessions => "sessions 4 4",
-            Words::Limiter => "limiter 4 4",
-            Words::Actors => "actors 4 4",
-        }
-    }
-}
-
-// Returns whether this sentence is printed about the input of a command with these words.
-fn says<R: Host + Send + 'static>(
+// Returns how the command with these words ends over the input. It has no clauses, so callers have none to carry.
+fn end_of<R: Host + Abort + Send + 'static>(
     rt: &R,
     alloc: Global,
-    words: Words,
+    words: &Vec<String>,
     input: &[u8],
-    sentence: &[u8],
-) -> Option<bool> {
-    let words = split(alloc, words.text()).ok()?;
-    let mut source = PlainSource::new(Vec::from_slice(alloc, input).ok()?);
+) -> Option<Ended> {
+    let clock = still_clock(rt, alloc);
+    let mut source = PlainSource::new(Vec::from_slice(alloc, input).expect(rt, "memory"));
     let mut sink = PlainSink::new();
     let mut spawner = NoSpawner::new();
-    let clock = still_clock(alloc)?;
-    let ended = explained(
+    explained(
         rt,
         alloc,
-        &words,
+        words,
         &mut source,
         &mut sink,
         clock,
         &mut spawner,
-    )?;
-    let line = ended.bad_line()?;
-    let fault = ended.fault()?;
-    let said = line_sentence(alloc, words.first()?.as_str(), line, &fault).ok()?;
-    Some(said.as_bytes() == sentence)
+    )
 }
 
-const REPLAY: Words = Words::Replay;
+// Returns the sentence about the first bad line.
+fn about_line(alloc: Global, command: &str, ended: &Ended) -> Option<String> {
+    let line = ended.bad_line()?;
+    let fault = ended.fault()?;
+    line_sentence(alloc, command, line, &fault).ok()
+}
 
-const CHECK: Words = Words::Check;
+// Returns the sentence about the first line of a journal that fails.
+fn about_journal(alloc: Global, ended: &Ended) -> Option<String> {
+    let failure = ended.failure(alloc).ok()??;
+    failure_sentence(alloc, &failure).ok()
+}
 
-const RUN: Words = Words::Run;
+fn is_said(said: Option<String>, sentence: &[u8]) -> bool {
+    match said {
+        Some(said) => said.as_bytes() == sentence,
+        None => false,
+    }
+}
 
-const SESSIONS: Words = Words::Sessions;
+// Returns whether this sentence is printed about the input of a command with these words.
+fn says<R: Host + Abort + Send + 'static>(
+    rt: &R,
+    alloc: Global,
+    words: &str,
+    input: &[u8],
+    sentence: &[u8],
+) -> bool {
+    let command = words.split(' ').next().unwrap_or("");
+    match end_of(rt, alloc, &words_of(alloc, words), input) {
+        Some(ended) => is_said(about_line(alloc, command, &ended), sentence),
+        None => false,
+    }
+}
 
-const LIMITER: Words = Words::Limiter;
+// Returns the same of a journal.
+fn fails<R: Host + Abort + Send + 'static>(
+    rt: &R,
+    alloc: Global,
+    words: &str,
+    journal: &[u8],
+    sentence: &[u8],
+) -> bool {
+    match end_of(rt, alloc, &words_of(alloc, words), journal) {
+        Some(ended) => is_said(about_journal(alloc, &ended), sentence),
+        None => false,
+    }
+}
 
-const ACTORS: Words = Words::Actors;
+const REPLAY: &str = "replay attached 16 16 16";
+
+const CHECK: &str = "check attached 16 16 16";
+
+const RUN: &str = "run 0 100";
+
+const SESSIONS: &str = "sessions 4 4";
+
+const LIMITER: &str = "limiter 4 4";
+
+const ACTORS: &str = "actors 4 4";
 
 // The words of a command, an input, and the sentence about its first bad line.
-const CASES: [(Words, &[u8], &[u8]); 81] = [
+const CASES: [(&str, &[u8], &[u8]); 81] = [
     (REPLAY, b"spawn\nspawn", b"line 2: no line feed at the end"),
     (
         REPLAY,
@@ -477,6 +489,100 @@ const CASES: [(Words, &[u8], &[u8]); 81] = [
 #[test]
 fn each_wrong_line_has_its_sentence(rt: HostRuntime) {
     for (words, input, sentence) in CASES {
-        assert!(&rt; says(&rt, rt.alloc(), words, input, sentence) == Some(true));
+        assert!(&rt; says(&rt, rt.alloc(), words, input, sentence));
+    }
+}
+
+const WHOLE: &str = "check --whole attached 16 16 16";
+
+// A journal, and what is said of its first line that fails.
+const NO_RUN: [(&[u8], &[u8]); 7] = [
+    (b"spawn -> task 1\n", b"line 1: the machine answers: task 0"),
+    (
+        b"spawn -> task 0\nturn; sleep 5; poll 0; pending -> turn 0; sleep 0; ready; idle\n",
+        b"line 2: the machine answers: turn 0; sleep 0; pending; idle",
+    ),
+    (
+        b"spawn -> task 0\nturn; sleep 5000000; sleep 2000000; poll 0; poll 1; pending -> turn 0; sleep 0; sleep 1; pending; pending; idle\nclock 9000000 -> fired 0 1\n",
+        b"line 3: the machine answers: fired 1 0",
+    ),
+    (
+        b"clock 9223372036854775807000001 -> fired\n",
+        b"line 1: the machine answers: refused invalid",
+    ),
+    (
+        b"spawn -> task 0\nremote 0 -> unlisted\n",
+        b"line 2: the machine answers: listed",
+    ),
+    (
+        b"spawn -> task 0\nremote 0 -> listed\nremote 0 -> unlisted\nremote 1 -> refused no-task\ndrain -> drained\n",
+        b"line 5: the machine answers: drained 0",
+    ),
+    (
+        b"turn; pending -> turn 0; idle\n",
+        b"line 1: the machine answers: refused idle",
+    ),
+];
+
+// A journal that is not whole, and what is said of its first line that fails.
+const NOT_WHOLE: [(&[u8], &[u8]); 13] = [
+    (b"spawn -> task 1\n", b"line 1: the machine answers: task 0"),
+    (
+        b"main 3\n",
+        b"line 1: expected: spawn and its report, which begins a call",
+    ),
+    (
+        b"spawn -> task 0\nnow 5\nnow 4\n",
+        b"line 3: expected: a turn, or a park without a limit or to a tick above 0, behind the line now",
+    ),
+    (
+        b"spawn -> task 0\nnow 5\nturn; pending -> turn 0; idle\nnow 9223372036854775807000001\n",
+        b"line 4: expected: now NANOS, remote TASK, drain or drop-join 0",
+    ),
+    (
+        b"spawn -> task 0\nnow 5\nturn; pending -> turn 0; idle\n",
+        b"line 4: expected: now NANOS, remote TASK, drain or drop-join 0",
+    ),
+    (
+        b"spawn -> task 0\nnow 5\npark\n",
+        b"line 4: expected: remote TASK, drain or drop-join 0 behind the park",
+    ),
+    (
+        b"spawn -> task 0\nnow 5\npark\nremote 0 -> listed\n",
+        b"line 5: expected: remote TASK or drain behind the line remote",
+    ),
+    (
+        b"spawn -> task 0\nnow 5\npark 3\ndrain -> drained\nnow 4\n",
+        b"line 5: expected: clock NANOS or drop-join 0 behind the drain that follows a park",
+    ),
+    (
+        b"spawn -> task 0\nremote 0 -> listed\nnow 5\n",
+        b"line 3: expected: remote TASK or drain behind the line remote",
+    ),
+    (
+        b"spawn -> task 0\nspawn -> task 1\n",
+        b"line 2: expected: now NANOS, remote TASK, drain or drop-join 0",
+    ),
+    (
+        b"spawn -> task 0\nnow 5\nturn; ready 7 -> turn 0; done\ndrop-join 0 -> dropped 7\nmain 6\n",
+        b"line 5: expected: main 7, the output that the drop gave, or the next call",
+    ),
+    (
+        b"spawn -> task 0\nnow 5\nturn; pending -> turn 0; idle\ndrop-join 0 -> dropped\nmain 7\n",
+        b"line 5: expected: the next call or the end: the drop gave no output",
+    ),
+    (
+        b"spawn -> task 0\ndrop-join 0 -> dropped\nnow 5\n",
+        b"line 3: expected: the next call or the end: the drop gave no output",
+    ),
+];
+
+#[test]
+fn failures_are_explained(rt: HostRuntime) {
+    for (journal, sentence) in NO_RUN {
+        assert!(&rt; fails(&rt, rt.alloc(), CHECK, journal, sentence));
+    }
+    for (journal, sentence) in NOT_WHOLE {
+        assert!(&rt; fails(&rt, rt.alloc(), WHOLE, journal, sentence));
     }
 }

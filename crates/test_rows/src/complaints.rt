@@ -3,7 +3,7 @@ use mono_script::complaint;
 use std::alloc::Global;
 
 // Returns the words of a text, or fewer if memory runs out.
-fn words_of(alloc: Global, text: &str) -> Vec<String> {
+pub(crate) fn words_of(alloc: Global, text: &str) -> Vec<String> {
     let mut words = Vec::new(alloc);
     for word in text.split(' ') {
         if !word.is_empty() {
