@@ -10,12 +10,6 @@ mod cases;
 #[cfg(test)]
 mod crowds;
 #[cfg(test)]
-mod failures;
-#[cfg(test)]
-mod handles;
-#[cfg(test)]
-mod jobs;
-#[cfg(test)]
 mod naps;
 #[cfg(test)]
 mod pools;

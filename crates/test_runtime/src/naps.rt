@@ -1,4 +1,4 @@
-// Naps on drivers that park often enough, and on drivers that do not.
+// Naps on a driver that parks often enough.
 use crate::turns::Gives;
 use mono_blocking::NoPool;
 use mono_model::Host;
@@ -43,11 +43,5 @@ fn is_nap<R: Host + Abort>(
 fn a_nap_takes_as_many_parks_as_the_wheel_has_slots_to_open(rt: HostRuntime) {
     assert!(rt; is_nap(&rt, rt.alloc(), 1, 5, Ok(1), (1, 5)));
     assert!(rt; is_nap(&rt, rt.alloc(), 2, 100, Ok(1), (2, 100)));
-    assert!(rt; is_nap(&rt, rt.alloc(), 0, 0, Ok(1), (0, 0)));
-}
-
-#[test]
-fn a_park_too_few_is_a_fault_of_the_driver(rt: HostRuntime) {
     assert!(rt; is_nap(&rt, rt.alloc(), 0, 5, Err(RunError::Driver), (1, 5)));
-    assert!(rt; is_nap(&rt, rt.alloc(), 1, 100, Err(RunError::Driver), (2, 100)));
 }

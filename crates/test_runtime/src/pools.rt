@@ -18,19 +18,14 @@ const DROP: TurnStep = TurnStep::Act(Act::DropJob(0));
 
 /// Makes a job whose flag is set, and takes its output.
 const AT_ONCE: Task = Task {
-    calls: &[
-        Call::SetFlag,
-        Call::BlockOnFlag(4),
-        Call::Poll(0),
-        Call::Drop(0),
-    ],
+    calls: &[Call::SetFlag, Call::Block(4), Call::Poll(0), Call::Drop(0)],
     answers: &[0, 4, NO_OUTPUT],
     ..IDLE
 };
 
 /// Makes a job and waits for its output. It sets the job's flag only after its poll was pending.
 const ON_A_WAKE: Task = Task {
-    calls: &[Call::BlockOnFlag(4), Call::Poll(0), Call::SetFlag],
+    calls: &[Call::Block(4), Call::Poll(0), Call::SetFlag],
     later: &[Call::Poll(0), Call::Drop(0)],
     answers: &[0, PENDING, 4, NO_OUTPUT],
     ..IDLE

@@ -54,10 +54,9 @@ pub(crate) fn sleeping<P: ThreadPool<Job = Gives> + Drop, R: Abort>(
     a_runtime(rt, alloc, parking(rt, alloc), pool, limits, false)
 }
 
-/// Returns the future of a task, whose pool has no job yet.
+/// Returns the future of a task.
 pub(crate) fn main_task<R: Abort>(rt: &R, alloc: Global, task: Task) -> Turns {
     let shared = Shared {
-        waiting: Mutex::new(Vec::new(alloc)),
         waker: Mutex::new(None),
         turns: AtomicU64::new(0),
     };

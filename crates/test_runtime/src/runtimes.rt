@@ -1,8 +1,7 @@
 // Another thread that wakes a sleeping runtime.
-use crate::cases::refusals_of;
 use crate::runs::{answer_of, main_task, sleeping};
-use crate::turns::{Call, IDLE, Keeps, Shared, Task};
-use mono_blocking::{BlockingHandle, BlockingStrategy};
+use crate::turns::{Call, Gives, IDLE, Shared, Task};
+use mono_blocking::{BlockingHandle, BlockingStrategy, NoPool};
 use mono_inbox::{RemoteWaker, UnparkHandle};
 use mono_model::Host;
 use std::alloc::Global;
@@ -83,12 +82,12 @@ fn woken<R: Host + Abort + Copy + Send + 'static>(rt: R, alloc: Global) -> (bool
     let main = main_task(&rt, alloc, woken_task());
     let ours = Arc::try_clone(&main.shared).expect(&rt, "memory");
     let theirs = Arc::try_clone(&main.shared).expect(&rt, "memory");
-    let pool = BlockingHandle::<Keeps>::Empty(BlockingStrategy::Panic);
+    let pool = BlockingHandle::<NoPool<Gives>>::Empty(BlockingStrategy::Panic);
     let mut runtime = sleeping(&rt, alloc, pool, 4);
     let other = thread::spawn(&rt, move || wakes(&rt, &theirs)).expect(&rt, "a thread");
     let is_ready = matches!(answer_of(&rt, alloc, &mut runtime, main, 1000000), Ok(1));
     let lost = other.join(&rt);
-    let has_no_pool = refusals_of(runtime).is_none();
+    let has_no_pool = runtime.into_pool().is_none();
     let turns = ours.turns.load(Ordering::SeqCst);
     (is_ready && has_no_pool, turns, lost)
 }
@@ -109,12 +108,12 @@ const HANDS_OUT: Task = Task {
 fn is_unlisted_after<R: Host + Abort>(rt: &R, alloc: Global) -> bool {
     let main = main_task(rt, alloc, HANDS_OUT);
     let shared = Arc::try_clone(&main.shared).expect(rt, "memory");
-    let pool = BlockingHandle::<Keeps>::Empty(BlockingStrategy::Panic);
+    let pool = BlockingHandle::<NoPool<Gives>>::Empty(BlockingStrategy::Panic);
     let mut runtime = sleeping(rt, alloc, pool, 4);
     let is_ready = matches!(answer_of(rt, alloc, &mut runtime, main, 10), Ok(1));
     let waker = shared.waker.lock(rt).take().expect(rt, "a waker");
     let is_listed = waker.wake(rt);
-    let has_no_pool = refusals_of(runtime).is_none();
+    let has_no_pool = runtime.into_pool().is_none();
     is_ready && has_no_pool && !is_listed
 }
 

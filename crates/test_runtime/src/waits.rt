@@ -7,10 +7,7 @@ use crate::turns::Gives;
 use mono_blocking::{BlockingHandle, BlockingStrategy, NoPool};
 use mono_machine::Limits;
 use mono_model::Host;
-use mono_rt::{
-    Driver, Entry, Journal, RunError, Runtime, SpawnRefused, StepDriver, TaskPhase, TaskWait,
-    WaitsFor,
-};
+use mono_rt::{Driver, RunError, Runtime, StepDriver, TaskPhase, TaskWait, WaitsFor};
 use mono_task::{Poll, TaskFuture};
 use mono_time::{Sleep, TimeContext, sleep};
 use std::alloc::Global;
@@ -24,7 +21,6 @@ use std::time::Duration;
 pub(crate) enum Work {
     Ready(Rc<u64, Global>),
     Waits,
-    Wakes,
     Sleeps(u64, Option<Sleep>),
 }
 
@@ -45,11 +41,6 @@ impl<C: TimeContext> TaskFuture<C> for Work {
         match self {
             Work::Ready(output) => Poll::Ready(**output),
             Work::Waits => Poll::Pending,
-            Work::Wakes => {
-                let me = cx.me();
-                let _ = cx.wake(me);
-                Poll::Pending
-            }
             Work::Sleeps(ticks, kept) => poll_sleeping(rt, alloc, cx, *ticks, kept),
         }
     }
@@ -61,7 +52,7 @@ impl<C: TimeContext> TaskFuture<C> for Work {
                     delay.cancel(cx);
                 }
             }
-            Work::Ready(_) | Work::Waits | Work::Wakes => {}
+            Work::Ready(_) | Work::Waits => {}
         }
     }
 }
@@ -149,19 +140,6 @@ fn with_two<R: Abort>(rt: &R, alloc: Global) -> Quiet
     runtime
 }
 
-/// Returns whether the spawn after `spawns` others is refused as at capacity.
-fn is_refused_after<R: Abort>(rt: &R, alloc: Global, spawns: u64) -> bool {
-    let mut runtime = quiet(rt, alloc, None);
-    for _ in 0..spawns {
-        assert!(rt; runtime.spawn(alloc, Work::Waits).is_ok());
-    }
-    let last = runtime.spawn(alloc, Work::Waits);
-    let is_refused = matches!(last, Err(SpawnRefused::AtCapacity(_)));
-    assert!(rt; runtime.into_pool().is_none());
-    assert!(rt; is_refused || last.is_ok());
-    is_refused
-}
-
 /// Returns whether a main task with this budget ends so, and the journal then has this many entries, if that is
 /// checked.
 fn ends<R: Host>(
@@ -203,33 +181,6 @@ fn lets_the_refused_go<R: Host + Abort>(rt: &R, alloc: Global, output: &Rc<u64, 
     has_no_pool & is_kept & (answer == Err(RunError::AtCapacity)) & (owners == 1)
 }
 
-/// Returns how long a park was, at this place of the journal.
-fn park_at(journal: &Journal, place: usize) -> Option<u64> {
-    match journal.get(place) {
-        Some(Entry::Park(Some(ticks))) => Some(*ticks),
-        _ => None,
-    }
-}
-
-/// Returns whether a main task that sleeps for `ticks` milliseconds has these two parks. A spawn, a turn with its
-/// reading, and a reading come before the first park; a drain, a clock step, and a reading follow it.
-fn has_parks<R: Host + Abort>(rt: &R, alloc: Global, ticks: u64, parks: (u64, u64)) -> bool {
-    let mut runtime = quiet(rt, alloc, None);
-    let answer = outcome_of(rt, alloc, &mut runtime, Work::Sleeps(ticks, None), 10);
-    let journal = runtime.journal();
-    let told = (park_at(journal, 4), park_at(journal, 8));
-    let has_no_pool = runtime.into_pool().is_none();
-    has_no_pool && answer.is_ok() && told == (Some(parks.0), Some(parks.1))
-}
-
-// A park ends at the start of the armed tick's slot, and a second one at the tick.
-#[test]
-fn parks(rt: HostRuntime) {
-    let alloc = rt.alloc();
-    assert!(rt; has_parks(&rt, alloc, 100, (64, 36)));
-    assert!(rt; has_parks(&rt, alloc, 70866960384, (68719476736, 2147483648)));
-}
-
 /// Returns whether a main task that waits for ever ends so, with a budget of 3 turns.
 fn waits<R: Host + Abort>(rt: &R, alloc: Global, fails: Option<u64>, answer: RunError) -> bool {
     let runtime = quiet(rt, alloc, fails);
@@ -242,8 +193,6 @@ fn blocks(rt: HostRuntime) {
     // each turn has two entries
     let two = with_two(&rt, alloc);
     assert!(rt; ends(&rt, alloc, two, ready(&rt, alloc, 1), 10, Ok(1), Some(6)));
-    assert!(rt; !is_refused_after(&rt, alloc, 15));
-    assert!(rt; is_refused_after(&rt, alloc, 16));
     let output = Rc::new(alloc, 7).expect(&rt, "memory");
     assert!(rt; lets_the_refused_go(&rt, alloc, &output));
     assert!(rt; waits(&rt, alloc, None, RunError::Turns));
@@ -284,30 +233,4 @@ fn a_task_that_registered_nowhere_is_stuck(rt: HostRuntime) {
     assert!(rt; has_two_rows(&list, sleeps, stuck));
     assert!(rt; !sleeps.is_stuck() & stuck.is_stuck());
     assert!(rt; runtime.into_pool().is_none());
-}
-
-/// A main task that wakes itself in each turn ends so if the first call of the driver fails, which is a submit.
-#[test]
-fn a_failed_submit_is_told(rt: HostRuntime) {
-    let runtime = quiet(&rt, rt.alloc(), Some(0));
-    let answer = Err(RunError::Driver);
-    assert!(rt; ends(&rt, rt.alloc(), runtime, Work::Wakes, 100, answer, None));
-}
-
-/// The park that fails, how a main task that sleeps for 100 milliseconds then ends, and how many entries the journal
-/// has. These are a spawn, a turn with its reading, for each park its reading, a drain and a clock step, and the drop
-/// of the handle.
-const PARKS: [(u64, Result<u64, RunError>, usize); 3] = [
-    (0, Err(RunError::Driver), 8),
-    (1, Err(RunError::Driver), 12),
-    (2, Ok(100), 14),
-];
-
-#[test]
-fn a_failed_park_is_told(rt: HostRuntime) {
-    for (call, answer, entries) in PARKS {
-        let runtime = quiet(&rt, rt.alloc(), Some(call));
-        let main = Work::Sleeps(100, None);
-        assert!(rt; ends(&rt, rt.alloc(), runtime, main, 100, answer, Some(entries)));
-    }
 }

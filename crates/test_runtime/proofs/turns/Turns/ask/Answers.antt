@@ -1,12 +1,6 @@
 use Rattle.mono_rt.specs.Reaches.{reaches_itself}
 use Rattle.test_runtime.proofs.turns.Turns.ask.Goals as goal
 
-pub returns-in-RunAll : goal.returns-in-RunAll
-returns-in-RunAll g c = reaches_itself g.O.Outcome.output_number c.args.cx.now
-
-pub returns-in-CancelAll : goal.returns-in-CancelAll
-returns-in-CancelAll g c = reaches_itself g.O.Outcome.output_number c.args.cx.now
-
 pub returns-in-SetFlag : goal.returns-in-SetFlag
 returns-in-SetFlag g c = reaches_itself g.O.Outcome.output_number c.args.cx.now
 
