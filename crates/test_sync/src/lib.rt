@@ -20,10 +20,4 @@ mod requests;
 #[cfg(test)]
 mod semaphores;
 #[cfg(test)]
-mod singles;
-#[cfg(test)]
-mod tables;
-#[cfg(test)]
-mod turns;
-#[cfg(test)]
 mod watches;

@@ -2,8 +2,8 @@
 ghost use Rattle.std.specs.Prelude.{⊤, List, ℕ};
 ghost use Rattle.std.specs.Option.{option_to_list};
 
-use mono_rt::SharedState;
 use mono_sync::{Idle, Many, RemoveError};
+use mono_task::SharedState;
 use std::alloc::Global;
 
 /// A value that owes at most one wake.
