@@ -4,3 +4,4 @@ mod broadcasts;
 mod cells;
 mod memory;
 mod mutexes;
+mod rw_locks;
