@@ -1,5 +1,6 @@
 // Forms on the futures of channels and semaphores, as main tasks of built runtimes.
-use mono_forms::FutureExt;
+use mono_combine::{SelectList, Start};
+use mono_forms::{FutureExt, ready};
 use mono_rt::{
     Cx, Host, NoPool, NoUnpark, Outcome, RunError, RuntimeBuilder, SharedState, StepDriver,
     TaskFuture, TimeDriver,
@@ -56,5 +57,32 @@ fn a_permit_is_acquired(rt: HostRuntime) {
         .map(|answer: Result<u64, u64>| answer.unwrap_or(0));
     if let Some(answer) = run(&rt, rt.alloc(), Semaphore::new(rt.alloc(), 1), task) {
         assert_eq!(rt; answer, Ok(2));
+    }
+}
+
+/// A list of `Either`s selects among three unlike futures: the message that the second sends wakes the first, which is picked.
+///
+/// It catches a select that drops a branch that waits once another has answered with an output that does not pass.
+#[test]
+fn a_select_of_three(rt: HostRuntime) {
+    let alloc = rt.alloc();
+    let recv = mpsc::Recv::<Only<Channel<u64>>, u64>::new().map(message_of);
+    let send = Send::<Only<Channel<u64>>, u64>::new(7).map(|_: Result<(), SendError<u64>>| 0u64);
+    let branches = Vec::from_array(
+        alloc,
+        [
+            recv.left_future(),
+            send.left_future().right_future(),
+            ready(5u64).right_future().right_future(),
+        ],
+    )
+    .expect(&rt, "memory");
+    let is_first = |number: u32, _: &u64| number == 0;
+    let task = SelectList::new(alloc, branches, is_first, 0, Start::Biased)
+        .ok()
+        .expect(&rt, "memory")
+        .with_body(|_: u32, message: u64| message, || 99);
+    if let Some(answer) = run(&rt, alloc, Channel::new(alloc, 1), task) {
+        assert_eq!(rt; answer, Ok(7));
     }
 }

@@ -2,6 +2,8 @@
 #![tactic(auto)]
 
 #[cfg(test)]
+mod by_key;
+#[cfg(test)]
 mod channels;
 #[cfg(test)]
 mod forms;
