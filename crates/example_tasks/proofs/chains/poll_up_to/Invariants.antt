@@ -1,5 +1,5 @@
 use Rattle.std.proofs.Common.{◌≡◌, false}
-use Rattle.use_chain.proofs.chains.poll_up_to.Given as goal
+use Rattle.example_tasks.proofs.chains.poll_up_to.Given as goal
 
 abbrev pub invariant-loop-left : goal.invariant-loop-left
 invariant-loop-left g l = record {

@@ -1,11 +1,9 @@
-// A chain by forms, and its polls.
+//! A future that is polled by hand: in any context, and at most so often.
 ghost use Rattle.std.specs.Prelude.{◌≡◌, ◌⊎◌, ◌<◌, ◌+◌, false};
 ghost use Rattle.mono_model.specs.Poll.{IfReady};
 
 use mono_forms::FutureExt;
-use mono_model::{Host, Poll};
-use mono_task::{Context, TaskFuture};
-use mono_time::{SleepError, TimeContext, sleep_for};
+use mono_rt::{Context, Host, Poll, SleepError, TaskFuture, TimeContext, sleep_for};
 use std::alloc::Global;
 use std::time::Duration;
 
@@ -26,12 +24,9 @@ pub fn poll_up_to<C: Context, A: TaskFuture<C>, R: Host>(
     let mut left = polls;
     while left > 0 {
         left -= 1;
-        match future.poll(rt, alloc, cx) {
-            Poll::Ready(output) => {
-                future.cancel(cx);
-                return Poll::Ready(output);
-            }
-            Poll::Pending => {}
+        if let Poll::Ready(output) = future.poll(rt, alloc, cx) {
+            future.cancel(cx);
+            return Poll::Ready(output);
         }
     }
     future.cancel(cx);
@@ -62,40 +57,4 @@ pub fn counts_once<C: TimeContext, R: Host>(
             Err(_) => 0,
         });
     poll_up_to(rt, alloc, cx, task, polls)
-}
-
-/// Polls as [`poll_up_to`] does, for a future whose type may be polled in any state.
-pub fn poll_any<C: Context, A: TaskFuture<C>, R: Host>(
-    rt: &R,
-    alloc: Global,
-    cx: &mut C,
-    future: A,
-    polls: u64,
-) -> Poll<A::Output>
-    requires unspent { A.is_spent future ≡ false }
-    requires callable { (f : A) → A.can_poll f }
-    ensures given { IfReady result (A.gives future) }
-    ensures reached { C.reaches cx.old cx.new }
-{
-    poll_up_to(rt, alloc, cx, future, polls)
-}
-
-/// Polls a task that sleeps, counts and sleeps again, and whose closures require nothing.
-pub fn counts_twice<C: TimeContext, R: Host>(
-    rt: &R,
-    alloc: Global,
-    cx: &mut C,
-    first: Duration,
-    second: Duration,
-    polls: u64,
-) -> Poll<u64>
-    ensures { IfReady result (λ n. (n ≡ 2) ⊎ (n ≡ 0)) }
-{
-    let task = sleep_for(first)
-        .and_then(move |_: ()| sleep_for(second).map_ok(|_: ()| 2u64))
-        .map(|answer: Result<u64, SleepError>| match answer {
-            Ok(counted) => counted,
-            Err(_) => 0,
-        });
-    poll_any(rt, alloc, cx, task, polls)
 }

@@ -1,6 +1,4 @@
 //! A task that sleeps twice, on a runtime of its own that never waits.
-#![tactic(auto)]
-
 ghost use Rattle.std.specs.Prelude.{◌≡◌, ◌⊎◌, IfOk};
 
 use mono_forms::FutureExt;
@@ -9,11 +7,10 @@ use mono_rt::{
     run_alone, sleep_for,
 };
 use std::alloc::{AllocError, Global};
-use std::io;
 use std::time::Duration;
 
 /// Returns how often a task has slept on a runtime of its own: twice, or never if a sleep was refused.
-fn sleep_twice<R: Host>(rt: &R, alloc: Global) -> Result<Result<u64, RunError>, AllocError>
+pub fn sleep_twice<R: Host>(rt: &R, alloc: Global) -> Result<Result<u64, RunError>, AllocError>
     ensures { IfOk result (λ answer. IfOk answer (λ times. (times ≡ 2) ⊎ (times ≡ 0))) }
 {
     let task = sleep_for(Duration::from_millis(5))
@@ -28,11 +25,4 @@ fn sleep_twice<R: Host>(rt: &R, alloc: Global) -> Result<Result<u64, RunError>, 
     let pool: BlockingHandle<NoPool> = BlockingHandle::Empty(BlockingStrategy::Panic);
     let (answer, _journal) = run_alone(rt, alloc, driver, pool, limits, task, 100)?;
     Ok(answer)
-}
-
-fn main(rt: HostRuntime) -> io::Result<()> {
-    match sleep_twice(&rt, rt.alloc()) {
-        Ok(Ok(times)) => println!(rt; "slept {times} times"),
-        _ => println!(rt; "gave up"),
-    }
 }
