@@ -7,7 +7,7 @@ use std::alloc::Global;
 use std::time::Duration;
 
 // Moves to a time, by a clock step in which at most one sleep fires.
-fn go_to(cx: &mut Desk, millis: u32) {
+pub(crate) fn go_to(cx: &mut Desk, millis: u32) {
     let now = at_millis(millis);
     cx.now = now;
     let _ = fires(&mut cx.timers, now);
@@ -15,7 +15,7 @@ fn go_to(cx: &mut Desk, millis: u32) {
 }
 
 // Returns whether a poll of the interval answers this tick.
-fn ticks_at(cx: &mut Desk, interval: &mut Interval, millis: u32) -> bool {
+pub(crate) fn ticks_at(cx: &mut Desk, interval: &mut Interval, millis: u32) -> bool {
     interval.poll_tick(cx) == Ok(Poll::Ready(at_millis(millis)))
 }
 

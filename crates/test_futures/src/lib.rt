@@ -39,4 +39,6 @@ mod tasks;
 #[cfg(test)]
 mod timers;
 #[cfg(test)]
+mod vectors;
+#[cfg(test)]
 mod wheels;

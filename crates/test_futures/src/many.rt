@@ -4,10 +4,10 @@ use mono_combine::{JoinList, TryJoinList};
 use mono_model::Host;
 use std::alloc::{AllocError, Global};
 
-type Told<T> = Result<(Option<(u64, T)>, u64), AllocError>;
+pub(crate) type Told<T> = Result<(Option<(u64, T)>, u64), AllocError>;
 
 /// Returns the listed branches, each with the polls that it waits and its value; they note 1, 2 and so on.
-fn listed(alloc: Global, branches: &[(u64, u64)]) -> Result<Vec<Step>, AllocError> {
+pub(crate) fn listed(alloc: Global, branches: &[(u64, u64)]) -> Result<Vec<Step>, AllocError> {
     let mut steps = Vec::new(alloc);
     for (waits, value) in branches {
         steps.push(Step {
@@ -60,7 +60,7 @@ fn are_all(numbers: &[u64]) -> bool {
 }
 
 /// Returns the poll, the outputs and the notes of the join of these branches.
-fn joined<R: Host>(
+pub(crate) fn joined<R: Host>(
     rt: &R,
     alloc: Global,
     cx: &mut Board,
@@ -92,7 +92,7 @@ fn joins(rt: HostRuntime) {
 
 /// Returns the poll, the outputs or the error, and the notes of the join of these branches; those whose values are
 /// listed fail.
-fn tried<R: Host>(
+pub(crate) fn tried<R: Host>(
     rt: &R,
     alloc: Global,
     cx: &mut Board,

@@ -3,7 +3,7 @@ ghost use Rattle.std.specs.Prelude.{◌≡◌, false};
 
 use crate::desks::{Desk, at_millis, empty_desk};
 use mono_limit::{Retry, RetryError};
-use mono_model::{Error, Host, Poll};
+use mono_model::{Error, Host, MAX_NANOS, Poll};
 use mono_task::TaskFuture;
 use mono_time::{Instant, TimeContext};
 use std::alloc::Global;
@@ -113,4 +113,22 @@ fn retries_that_end(rt: HostRuntime) {
         let mut cx = empty_desk(&rt, rt.alloc(), at_millis(0));
         assert!(&rt; ends_so(&rt, rt.alloc(), &mut cx, good, last));
     }
+}
+
+// Returns whether the next attempt is reported as too far.
+fn is_far<R: Host>(rt: &R, alloc: Global, cx: &mut Desk) -> bool {
+    let make = |number| Attempt { number, good: 0 };
+    let Ok(mut retry) = Retry::new(alloc, cx, make, 1, 1, 2) else {
+        return false;
+    };
+    let answer = polled(rt, alloc, cx, &mut retry);
+    retry.cancel(cx);
+    answer == Some(Poll::Ready(Err(RetryError::Far(1))))
+}
+
+#[test]
+fn a_retry_that_is_far(rt: HostRuntime) {
+    let end = Instant::from_nanos(MAX_NANOS).expect(&rt, "an instant");
+    let mut cx = empty_desk(&rt, rt.alloc(), end);
+    assert!(&rt; is_far(&rt, rt.alloc(), &mut cx));
 }

@@ -42,13 +42,20 @@ fn hint<S: Stream<Board>>(stream: &S) -> (usize, Option<usize>) {
     stream.size_hint()
 }
 
-/// Returns whether a number comes with one added, and whether the hints are right.
+/// Returns whether three numbers come, each with one added, and whether the hints are right.
 fn adds_one<R: Host>(rt: &R, alloc: Global, cx: &mut Board) -> bool {
     let numbers = iter([1u64, 2, 3]);
     let is_exact = hint(&numbers) == (3, Some(3));
     let mut mapped = StreamExt::<Board>::map(numbers, |x: u64| x.wrapping_add(1));
     let is_open = hint(&mapped) == (0, None);
-    is_exact && is_open && mapped.poll_next(rt, alloc, cx) == Poll::Ready(Some(2))
+    let first = mapped.poll_next(rt, alloc, cx);
+    let second = mapped.poll_next(rt, alloc, cx);
+    let third = mapped.poll_next(rt, alloc, cx);
+    let last = mapped.poll_next(rt, alloc, cx);
+    let are_three = first == Poll::Ready(Some(2))
+        && second == Poll::Ready(Some(3))
+        && third == Poll::Ready(Some(4));
+    is_exact && is_open && are_three && last == Poll::Ready(None)
 }
 
 /// Returns whether the output of a future comes, which waits once.

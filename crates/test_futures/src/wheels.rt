@@ -4,7 +4,7 @@ use std::alloc::Global;
 use std::process::Abort;
 
 // Inserts a new key that is due at a tick.
-fn put<R: Abort>(rt: &R, alloc: Global, wheel: &mut Wheel, tick: u64) -> usize {
+pub(crate) fn put<R: Abort>(rt: &R, alloc: Global, wheel: &mut Wheel, tick: u64) -> usize {
     let key = wheel.reserve_entry(alloc).expect(rt, "memory");
     if tick < 1 << 63 {
         let _ = wheel.insert(key, tick);
