@@ -6,7 +6,7 @@ use std::sync::atomic::{AtomicU64, Ordering};
 use std::thread::{self, JoinHandle, Threads};
 
 #[derive(Drop)]
-struct Named(u64);
+pub(crate) struct Named(pub(crate) u64);
 
 impl Wakes for Named {
     ghost waker_number = { λ w. w.0 };
@@ -17,7 +17,7 @@ impl Wakes for Named {
 }
 
 // Returns the number of the waker that a completion hands back, or 0 if it hands back none.
-fn woken(waker: Option<Named>) -> u64 {
+pub(crate) fn woken(waker: Option<Named>) -> u64 {
     match waker {
         Some(Named(number)) => number,
         None => 0,

@@ -27,4 +27,6 @@ mod recorded_inboxes;
 #[cfg(test)]
 mod states;
 #[cfg(test)]
+mod vectors;
+#[cfg(test)]
 mod wakes;
