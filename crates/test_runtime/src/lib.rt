@@ -22,4 +22,6 @@ mod submits;
 #[cfg(test)]
 mod turns;
 #[cfg(test)]
+mod vectors;
+#[cfg(test)]
 mod waits;

@@ -31,7 +31,7 @@ pub(crate) fn a_runtime<F: Drop, D: Driver, P: ThreadPool + Drop, R: Abort>(
 }
 
 /// Returns a driver that parks its thread, and whose clock always reads 0.
-fn parking<R: Abort>(rt: &R, alloc: Global) -> ThreadDriver<ListClock> {
+pub(crate) fn parking<R: Abort>(rt: &R, alloc: Global) -> ThreadDriver<ListClock> {
     let zero = Instant::from_nanos(0).expect(rt, "an instant");
     let clock = ListClock::new(vec![in alloc; zero].expect(rt, "memory"));
     ThreadDriver::new(alloc, clock).expect(rt, "memory")

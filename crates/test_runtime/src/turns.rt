@@ -73,12 +73,15 @@ pub(crate) const PENDING: u64 = 1005;
 
 pub(crate) const NO_OUTPUT: u64 = 1006;
 
-/// A refusal, a canceled job, or out of memory, none of which a test expects.
+pub(crate) const NO_POOL: u64 = 1007;
+
+/// Another refusal, a canceled job, or out of memory, none of which a test expects.
 const ANOTHER: u64 = 1015;
 
 fn of_spawn(answer: &Result<JobHandle, SpawnError<Gives>>) -> u64 {
     match answer {
         Ok(handle) => handle.job(),
+        Err(SpawnError::NoPool(_)) => NO_POOL,
         Err(_) => ANOTHER,
     }
 }
