@@ -20,3 +20,5 @@ pub mod CallLemmas
 pub mod CauseLemmas
 pub mod PartLemmas
 pub mod ArgumentLemmas
+pub mod ExtendLemmas
+pub mod WholeLemmas

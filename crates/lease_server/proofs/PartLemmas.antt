@@ -1,7 +1,8 @@
--- Examples of what serves an input in part, and of what does not.
+-- Examples of what serves an input in part, of what begins an output that serves all of it, and of what does not.
 use Rattle.std.proofs.Common.{◌≡◌, ◌≢◌, ◌==◌, ◌+◌, ◌<◌, ◌≤◌, ◌⊎◌, inl, inr, if◌then◌else◌, ℕ, Bool, true, false, List, [], ◌∷◌, ◌++◌, map, length, Option, Some, None, codes, refl, sym, ap, subst, ◌∙◌, arith, lit<, get_or}
 use Rattle.std.specs.List.{flat_map}
 use Rattle.std.proofs.lemmas.Fmt.{decimal_digit}
+use Rattle.std.proofs.lemmas.List.{take_all}
 use Rattle.std.proofs.lemmas.List.Concat.{flat_map-append}
 use Rattle.mono_text.specs.Lines.{lines}
 use Rattle.mono_channel.specs.Delivery.{of, Interleaves}
@@ -15,12 +16,13 @@ use Rattle.lease_core.specs.declared.sizes.Sizes.{Sizes}
 use Rattle.lease_core.specs.Cores.{new_core}
 use Rattle.lease_core.specs.Steps.{Handle}
 use Rattle.lease_lines.specs.Lines.{call_text}
-use Rattle.lease_server.specs.Answers.{number_of, by_core, refusals_of}
+use Rattle.lease_server.specs.Answers.{answer_lines, number_of, by_core, refusals_of}
 use Rattle.lease_server.specs.Routing.{Ask, refused}
-use Rattle.lease_server.specs.EndToEnd.{EachRunsPart, ServesPart}
-use Rattle.lease_server.specs.Examples.{three_lines, counted, ServesInPart, ServesNotInPart}
+use Rattle.lease_server.specs.EndToEnd.{EachRuns, EachRunsPart, ServesPart}
+use Rattle.lease_server.specs.Examples.{three_lines, counted, ServesInPart, ServesNotInPart, BeginsAnOutput, BeginsNoOutput}
 use Rattle.lease_server.specs.declared.answers.Answer.{Answer}
 use Rattle.lease_server.specs.declared.answers.Answer.TheVariants.{Bad, By}
+use Rattle.lease_server.proofs.WholeLemmas.{whole_output}
 use Rattle.lease_server.proofs.ExampleLemmas.{bad_spells_none}
 use Rattle.lease_server.proofs.OrderLemmas.{AreEmpty, alone_among, other_is}
 
@@ -165,3 +167,25 @@ serves_not_in_part sizes s =
     let parts = parts_interleaved bad_of (s.refusals ∷ s.each) (Bad 3 ∷ []) s.interleave in
     let same : Bad 3 ∷ [] ≡ flat_map bad_of s.refusals = alone_among (flat_map bad_of s.refusals) (map (λ l. flat_map bad_of l) (s.refusals ∷ s.each)) (Bad 3 ∷ []) (inl (refl, no_bads_by 0 sizes s.asked s.each s.runs)) parts in
     refused_first s.refusals s.unsaid (refused 2 none.0) (ap (λ a. refusals_of (refused 1 a)) (sym none.1) ∙ s.refuses) same
+
+-- ---- what begins an output that serves all lines
+
+pub begins_an_output : BeginsAnOutput
+begins_an_output sizes =
+    let bytes = answer_lines (By 0 (counted sizes) ∷ []) in
+    let le : length bytes ≤ length bytes = omega arith in
+    whole_output 1 sizes (Some three_lines) (Some []) (Some []) (Some bytes) (three_lines, By 0 (counted sizes) ∷ [], inl (refl, refl), (length bytes, le, ap Some (sym (take_all (length bytes) bytes le))), (serves_in_part sizes).1)
+
+no_bads_of : (k : ℕ) (sizes : Sizes) (asked : List (Option Request)) (each : List (List Answer)) → EachRuns k 1 sizes asked each → AreEmpty (map (λ l. flat_map bad_of l) each)
+no_bads_of k sizes asked [] runs = tt
+no_bads_of k sizes asked (answers ∷ others) runs = (ap (λ l. flat_map bad_of l) runs.0.2 ∙ no_bads k runs.0.0, no_bads_of (k + 1) sizes asked others runs.1)
+
+pub begins_no_output : BeginsNoOutput
+begins_no_output sizes output rest s is =
+    let none = first_none s.asked s.asks in
+    let refusals = refusals_of (refused 1 s.asked) in
+    let parts = parts_interleaved bad_of (refusals ∷ s.each) s.answers s.interleave in
+    let same : flat_map bad_of s.answers ≡ flat_map bad_of refusals = alone_among (flat_map bad_of refusals) (map (λ l. flat_map bad_of l) (refusals ∷ s.each)) (flat_map bad_of s.answers) (inl (refl, no_bads_of 0 sizes s.asked s.each s.runs)) parts in
+    let n : ◌≡◌ {A = ℕ} 3 1 =
+    ap (λ a. number_of (first_of (flat_map bad_of a))) (sym is) ∙ ap (λ l. number_of (first_of l)) same ∙ ap (λ asked. number_of (first_of (flat_map bad_of (refusals_of (refused 1 asked))))) none.1 in
+    absurd (omega (arith, n))

@@ -1,6 +1,6 @@
 -- Which call the program makes for its words, and the number with which it exits.
 use Rattle.std.specs.Prelude.{◌≡◌, ◌⊎◌, ◌<◌, ◌≤◌, ◌^◌, ℕ, Bool, true, false, List, [], ◌∷◌, ◌++◌, Option, codes, decimal}
-use Rattle.lease_server.specs.EndToEnd.{HasServed, HasServedLines, HasServedPart, SaysWhich}
+use Rattle.lease_server.specs.EndToEnd.{HasServed, HasServedLines, HasServedPart, HasBegunOutput, SaysWhich}
 use Rattle.lease_server.specs.Pages.{Asks, Shows, page_text}
 use Rattle.lease_server.specs.declared.pages.Page.{Page}
 use Rattle.lease_server.specs.declared.words.Settings.{Settings}
@@ -57,6 +57,7 @@ pub record ServesWords (words : List (List ℕ)) (a b : View) (code : ℕ) : Typ
   pub served : code ≡ 0 → HasServed settings.cores settings.sizes a.left b.left a.written b.written
   pub cut : code ≡ 4 → HasServedLines settings.cores settings.sizes a.left b.left a.written b.written
   pub begun : HasServedPart settings.cores settings.sizes a.left b.left a.written b.written
+  pub whole : HasBegunOutput settings.cores settings.sizes a.left a.written b.written
   pub which : SaysWhich code a.reads b.reads a.writes b.writes
 
 -- The words ask for no page and say no settings. Nothing was read or written.

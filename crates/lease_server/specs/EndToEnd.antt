@@ -1,5 +1,5 @@
 -- What the server does from the bytes that it reads to the bytes that it writes.
-use Rattle.std.specs.Prelude.{◌≡◌, ◌⊎◌, ◌+◌, ◌<◌, ◌≤◌, ℕ, List, [], ◌∷◌, ◌++◌, map, length, Option, Some}
+use Rattle.std.specs.Prelude.{◌≡◌, ◌⊎◌, ◌+◌, ◌<◌, ◌≤◌, ℕ, List, [], ◌∷◌, ◌++◌, map, length, Option, Some, None}
 use Rattle.mono_model.specs.Valid.{times}
 use Rattle.mono_text.specs.Lines.{lines}
 use Rattle.mono_text.specs.Environment.{HasRead, HasReadAll, HasRisen, HasWritten, HasWrittenPrefix}
@@ -96,6 +96,15 @@ pub record ServesPart (cores : ℕ) (sizes : Sizes) (input : List ℕ) (answers 
 abbrev pub HasServedPart : ℕ → Sizes → Option (List ℕ) → Option (List ℕ) → Option (List ℕ) → Option (List ℕ) → Type 0
 HasServedPart cores sizes left rest before after =
     (input : List ℕ) × (answers : List Answer) × HasTakenLines left input rest × HasWrittenPrefix before after (answer_lines answers) × ServesPart cores sizes input answers
+
+-- The input is all that the source had left, if the source exposes it.
+abbrev pub IsInput : Option (List ℕ) → List ℕ → Type 0
+IsInput None input = Unit {0}
+IsInput (Some left) input = input ≡ left
+
+-- What was written is a beginning of an output that serves all of the input, whether or not all of it was read.
+abbrev pub HasBegunOutput : ℕ → Sizes → Option (List ℕ) → Option (List ℕ) → Option (List ℕ) → Type 0
+HasBegunOutput cores sizes left before after = (input : List ℕ) × (output : List ℕ) × IsInput left input × HasWrittenPrefix before after output × ServesAll cores sizes input output
 
 -- What the status of a server says of the faults of its source and of its sink, before and now. With 0 no read and no write
 -- failed. With 4 a read failed, and with 5 a write. With 6 memory ran out. With 7 a thread could not be made, and nothing was

@@ -13,7 +13,8 @@ use Rattle.lease_core.specs.Steps.{counts_of}
 use Rattle.lease_lines.specs.Lines.{call_text}
 use Rattle.lease_server.specs.Routing.{Ask, routed, all_routed, refused}
 use Rattle.lease_server.specs.Answers.{answer_lines, refusals_of}
-use Rattle.lease_server.specs.EndToEnd.{ServesPart}
+use Rattle.lease_server.specs.EndToEnd.{ServesAll, ServesPart, HasBegunOutput}
+use Rattle.lease_server.specs.declared.answers.Answer.{Answer}
 use Rattle.lease_server.specs.declared.answers.Answer.TheVariants.{Bad, By}
 
 abbrev pub spawn : ℕ → ℕ → Request
@@ -79,3 +80,11 @@ ServesInPart = (sizes : Sizes) → ServesPart 1 sizes three_lines [] × ServesPa
 -- They are not served in part if line 3 was refused and line 1 was not.
 abbrev pub ServesNotInPart : Type 0
 ServesNotInPart = (sizes : Sizes) → ServesPart 1 sizes three_lines (Bad 3 ∷ []) → ⊥
+
+-- An output that serves all of three lines begins with the reply to line 2.
+abbrev pub BeginsAnOutput : Type 0
+BeginsAnOutput = (sizes : Sizes) → HasBegunOutput 1 sizes (Some three_lines) (Some []) (Some (answer_lines (By 0 (counted sizes) ∷ [])))
+
+-- No output that serves them begins with the refusal of line 3.
+abbrev pub BeginsNoOutput : Type 0
+BeginsNoOutput = (sizes : Sizes) (output : List ℕ) (rest : List Answer) (s : ServesAll 1 sizes three_lines output) → s.answers ≡ Bad 3 ∷ rest → ⊥

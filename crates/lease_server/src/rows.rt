@@ -1,5 +1,5 @@
 // Examples of what lines ask, which core gets it, and what serves them in part.
-ghost use Rattle.lease_server.specs.Examples.{SmallAsks, SmallRoutes, AsksNot, RoutesNot, ManyAsk, ServesInPart, ServesNotInPart};
+ghost use Rattle.lease_server.specs.Examples.{SmallAsks, SmallRoutes, AsksNot, RoutesNot, ManyAsk, ServesInPart, ServesNotInPart, BeginsAnOutput, BeginsNoOutput};
 
 /// Shows what five lines ask. One spells no request, and one has no line feed.
 pub fn small_asks()
@@ -34,4 +34,14 @@ pub fn serves_in_part()
 /// Shows that a refusal of the third line does not, if the first was not refused.
 pub fn serves_not_in_part()
     ensures { ServesNotInPart }
+{}
+
+/// Shows that an output that serves all of three lines begins with the reply to the second one.
+pub fn begins_an_output()
+    ensures { BeginsAnOutput }
+{}
+
+/// Shows that no output that serves them begins with the refusal of the third one.
+pub fn begins_no_output()
+    ensures { BeginsNoOutput }
 {}

@@ -5,7 +5,7 @@ ghost use Rattle.mono_channel.specs.Delivery.{Interleaves, all_shares};
 ghost use Rattle.mono_channel.specs.Ends.{sent_by, received_by, settled_by, shares_of, IsPair};
 ghost use Rattle.lease_server.specs.declared.texts.Text.{Text};
 ghost use Rattle.lease_server.specs.Dispatch.{Holds};
-ghost use Rattle.lease_server.specs.EndToEnd.{HasServed, HasServedLines, HasServedPart, SaysWhich};
+ghost use Rattle.lease_server.specs.EndToEnd.{HasServed, HasServedLines, HasServedPart, HasBegunOutput, SaysWhich};
 ghost use Rattle.lease_server.specs.Routers.{LeadsOn};
 ghost use Rattle.lease_server.specs.Threads.{IsStarted, ArePaired, AreNumbered, Starts, HasAnswered, HaveAnswered, HasBegun, HaveBegun, Routes, EndsAs, Settles};
 
@@ -251,8 +251,9 @@ fn settle_all<R: Host, S: Drop, K: Drop>(rt: &R, routed: Routed<S>, wrote: Wrote
 /// to the end of the input. The requests of that run are exactly those of the lines whose key has that core, in order.
 /// If it is `READ`, the same holds of all lines that were read whole (`cut`).
 ///
-/// Whatever the status, the bytes written are a beginning of such an output, in whole lines but for the last (`begun`): of
-/// the refusals and of each core's replies, a beginning. The status says what failed (`says`).
+/// Whatever the status, the bytes written are a beginning of such an output for the whole input (`whole`), in whole lines
+/// but for the last. They answer no line that was not read (`begun`): they have a beginning of the refusals and of each
+/// core's replies. The status says what failed (`says`).
 pub fn serve<R, S, K>(rt: R, alloc: Global, settings: &Settings, source: S, sink: K) -> Served<S, K>
 where
     R: Host + Copy + Send + 'static,
@@ -261,6 +262,7 @@ where
     ensures served { result.status ≡ 0 → HasServed settings.now.cores settings.now.sizes (S.left source) (S.left result.source) (K.written sink) (K.written result.sink) }
     ensures cut { result.status ≡ 4 → HasServedLines settings.now.cores settings.now.sizes (S.left source) (S.left result.source) (K.written sink) (K.written result.sink) }
     ensures begun { HasServedPart settings.now.cores settings.now.sizes (S.left source) (S.left result.source) (K.written sink) (K.written result.sink) }
+    ensures whole { HasBegunOutput settings.now.cores settings.now.sizes (S.left source) (K.written sink) (K.written result.sink) }
     ensures says { SaysWhich result.status (S.faults source) (S.faults result.source) (K.faults sink) (K.faults result.sink) }
 {
     let Ok((mut texts, written)) = channel(alloc, PLACES) else {

@@ -17,6 +17,7 @@ returns-in-Some g c =
       served = λ done. made.served (sym is ∙ done);
       cut = λ failed. made.cut (sym is ∙ failed);
       begun = made.begun;
+      whole = made.whole;
       which = subst (λ n. SaysWhich n (reads c.args.source) (reads served.source) (writes c.args.sink) (writes served.sink)) (sym is) made.says;
     })
 

@@ -3,6 +3,7 @@ use Rattle.mono_channel.specs.Ends.{IsPair}
 use Rattle.lease_server.specs.Printers.{HasWrittenTexts}
 use Rattle.lease_server.proofs.ThreadLemmas.{pairs_by}
 use Rattle.lease_server.proofs.EndLemmas.{served_all, cut, begun, says, serves_none, wrote_by}
+use Rattle.lease_server.proofs.WholeLemmas.{whole_output}
 use Rattle.lease_server.proofs.servers.serve.Goals as goal
 
 pub settle_all-requires-clause-paired : goal.settle_all-requires-clause-paired
@@ -32,6 +33,11 @@ returns-in-Ok-spawn_with-clause-begun g c =
     begun g.S.Source.left g.S.Source.faults g.K.Sink.written g.K.Sink.faults settings.cores settings.sizes c.args.source c.args.sink c.in-Ok.written c.route_all-routed.result c.join.result c.settle_all.result
     (c.in-Ok.ensures.received.0, c.in-Ok.ensures.received.1, c.in-Ok.ensures.shares.1) c.route_all-routed.ensures.routed w c.settle_all.ensures
 
+pub returns-in-Ok-spawn_with-clause-whole : goal.returns-in-Ok-spawn_with-clause-whole
+returns-in-Ok-spawn_with-clause-whole g c =
+    let settings = c.args.settings.now in
+    whole_output settings.cores settings.sizes (g.S.Source.left c.args.source) (g.S.Source.left c.settle_all.result.source) (g.K.Sink.written c.args.sink) (g.K.Sink.written c.settle_all.result.sink) (returns-in-Ok-spawn_with-clause-begun g c)
+
 pub returns-in-Ok-spawn_with-clause-says : goal.returns-in-Ok-spawn_with-clause-says
 returns-in-Ok-spawn_with-clause-says g c =
     let settings = c.args.settings.now in
@@ -40,6 +46,11 @@ returns-in-Ok-spawn_with-clause-says g c =
 
 pub returns-in_default-clause-begun : goal.returns-in_default-clause-begun
 returns-in_default-clause-begun g c = serves_none c.args.settings.now.cores c.args.settings.now.sizes (g.S.Source.left c.args.source) (g.K.Sink.written c.args.sink)
+
+pub returns-in_default-clause-whole : goal.returns-in_default-clause-whole
+returns-in_default-clause-whole g c =
+    let settings = c.args.settings.now in
+    whole_output settings.cores settings.sizes (g.S.Source.left c.args.source) (g.S.Source.left c.args.source) (g.K.Sink.written c.args.sink) (g.K.Sink.written c.args.sink) (returns-in_default-clause-begun g c)
 
 pub settle_all-requires-in-Err-clause-paired : goal.settle_all-requires-in-Err-clause-paired
 settle_all-requires-in-Err-clause-paired g c =
@@ -71,3 +82,8 @@ returns-in-Err-clause-begun g c =
     let w : HasWrittenTexts g.K.Sink.written g.K.Sink.faults c.in-Ok.written c.args.sink wrote = search rules in
     begun g.S.Source.left g.S.Source.faults g.K.Sink.written g.K.Sink.faults settings.cores settings.sizes c.args.source c.args.sink c.in-Ok.written c.route_none.result wrote c.settle_all-in-Err.result
     (c.in-Ok.ensures.received.0, c.in-Ok.ensures.received.1, c.in-Ok.ensures.shares.1) c.route_none.ensures.routed w c.settle_all-in-Err.ensures
+
+pub returns-in-Err-clause-whole : goal.returns-in-Err-clause-whole
+returns-in-Err-clause-whole g c =
+    let settings = c.args.settings.now in
+    whole_output settings.cores settings.sizes (g.S.Source.left c.args.source) (g.S.Source.left c.settle_all-in-Err.result.source) (g.K.Sink.written c.args.sink) (g.K.Sink.written c.settle_all-in-Err.result.sink) (returns-in-Err-clause-begun g c)
