@@ -39,14 +39,13 @@ routed_on k cores (None ∷ xs) ys = routed_on k cores xs ys
 routed_on k cores (Some request ∷ xs) ys =
     ap (λ l. if core_of request.key cores == k then request ∷ l else l) (routed_on k cores xs ys) ∙ if_more (core_of request.key cores == k) request (routed k cores xs) (routed k cores ys)
 
+one_more : (n : ℕ) (what : Option Request) (xs : List (Option Request)) → n + 1 + length xs ≡ n + length (what ∷ xs)
+one_more n what xs = omega arith
+
 refused_on : (n : ℕ) (xs ys : List (Option Request)) → refused n (xs ++ ys) ≡ refused n xs ++ refused (n + length xs) ys
 refused_on n [] ys = ap (λ m. refused m ys) (omega arith)
-refused_on n (None ∷ xs) ys =
-    let same : n + 1 + length xs ≡ n + length (◌∷◌ {A = Option Request} None xs) = omega arith in
-    ap (λ l. n ∷ l) (refused_on (n + 1) xs ys ∙ ap (λ m. refused (n + 1) xs ++ refused m ys) same)
-refused_on n (Some request ∷ xs) ys =
-    let same : n + 1 + length xs ≡ n + length (Some request ∷ xs) = omega arith in
-    refused_on (n + 1) xs ys ∙ ap (λ m. refused (n + 1) xs ++ refused m ys) same
+refused_on n (None ∷ xs) ys = ap (λ l. n ∷ l) (refused_on (n + 1) xs ys ∙ ap (λ m. refused (n + 1) xs ++ refused m ys) (one_more n None xs))
+refused_on n (Some request ∷ xs) ys = refused_on (n + 1) xs ys ∙ ap (λ m. refused (n + 1) xs ++ refused m ys) (one_more n (Some request) xs)
 
 ask_on : (n : ℕ) (ls ms : List Line) (xs ys : List (Option Request)) → Ask n ls xs → Ask (n + length xs) ms ys → Ask n (ls ++ ms) (xs ++ ys)
 ask_on n [] ms [] ys one two = let same : n + 0 ≡ n = omega arith in subst (λ k. Ask k ms ys) same two
