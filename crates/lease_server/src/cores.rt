@@ -65,7 +65,7 @@ impl CoreTask {
     {
         match sleep_until(alloc, cx, end) {
             Ok(nap) => self.doze(rt, alloc, cx, nap, end),
-            Err(_) => again(cx),
+            Err(_) => cx.wake_me(),
         }
     }
 
@@ -83,7 +83,7 @@ impl CoreTask {
         let mut nap = nap;
         let _ = nap.reset(cx, end);
         if let Poll::Ready(_) = nap.poll(rt, alloc, cx) {
-            again(cx);
+            cx.wake_me();
         }
         self.nap = Some(nap);
     }
@@ -119,14 +119,6 @@ fn turn_shared<C: SharedContext<Station>, R: Host>(
     cx.shared_mut().turn(rt, alloc, waker, now)
 }
 
-// Queues the running task again after its turn.
-fn again<C: Context>(cx: &mut C)
-    ensures { C.reaches cx.old cx.new }
-{
-    let me = cx.me();
-    let _ = cx.wake(me);
-}
-
 impl<C: RemoteContext<UnparkHandle> + TimeContext + SharedContext<Station>> TaskFuture<C>
     for CoreTask {
     type Output = u64;
@@ -142,7 +134,7 @@ impl<C: RemoteContext<UnparkHandle> + TimeContext + SharedContext<Station>> Task
         match turn_shared(cx, rt, alloc, &waker) {
             Err(_) => Poll::Ready(status::MEMORY),
             Ok(true) => {
-                again(cx);
+                cx.wake_me();
                 Poll::Pending
             }
             Ok(false) => self.end_or_rest(rt, alloc, cx),

@@ -49,6 +49,16 @@ pub trait Context {
         ensures woke { wakes self.old task result self.new }
         ensures reached { reaches self.old self.new };
 
+    /// Wakes the running task, so that it runs again after its turn (`work`).
+    final fn wake_me(&mut self)
+        ensures work { work self.new ≡ woken (work self.old) (number self.old) }
+        ensures woke { wakes self.old (number self.old) (wake_answer (work self.old) (number self.old)) self.new }
+        ensures reached { reaches self.old self.new }
+    {
+        let me = self.me();
+        let _ = self.wake(me);
+    }
+
     ghost reaches_itself: { (c : Self) → reaches c c };
 
     ghost reaches_on: { (a b c : Self) → reaches a b → reaches b c → reaches a c };
