@@ -71,9 +71,9 @@ pub trait ThreadPool {
         ensures offer { Offers task.old task.new (refusals self.old) (refusals self.new) result }
         ensures here { runs_here self.old → (result ≡ Here) × runs_here self.new };
 
-    /// Takes a task, to run it here or elsewhere. Otherwise the same task comes back. The pool refuses it only if the
-    /// count of refusals rose in this call (`answer`). A pool that runs each task on the caller always answers Ok
-    /// (`here`).
+    /// Offers a task to the pool, to run it here or elsewhere. Otherwise the same task comes back. The pool refuses it
+    /// only if the count of refusals rose in this call (`answer`). A pool that runs each task on the caller always answers
+    /// Ok (`here`). No clause says that a pool runs what it took: it may drop it.
     final fn schedule_task<R: Host>(
         &mut self,
         rt: &R,

@@ -28,11 +28,11 @@ use std::alloc::{AllocError, Global};
 /// registered ticks, of which there are none at the start (`parks`). The readings are the driver's (`told`). If the
 /// driver exposes its time, a reading is that time and the length of the parks since; if it exposes its readings, the
 /// next of them. The journal is full only if a turn made more than 512 acts (`full`). Until it is full its entries are the
-/// history
-/// (`Journal::kept`). An answer is one that the future gives (`given`).
+/// history (`Journal::kept`). An answer is one that the future gives (`given`).
 ///
 /// Each turn of the history is one poll of its task's own future, from the futures that the turns before it left
-/// (`polled`). If the answer is Memory, this holds of the turn in which memory ran out, too (`still_polled`).
+/// (`polled`). A future that is spent is not polled: its turn ends pending. If the answer is Memory, this holds of the
+/// turn in which memory ran out, too (`still_polled`).
 ///
 /// The tasks share nothing, so no clause is about what a park finds in the shared value (`listed` of `block_on`).
 ///

@@ -242,8 +242,11 @@ where
     ///
     /// Each turn of the history is one poll of its task's own future, from the futures that the turns before it left
     /// (`polled`). A future that is spent is not polled: its turn ends pending, with no act but the wakes that the shared
-    /// value owed (law `a_spent_future_is_not_polled`). If the answer is Memory, this holds of the turn in which memory ran out, too (`still_polled`). The answer is Driver if and only if the driver's count of faults rose in
-    /// this call, also if memory ran out after that (`faults`).
+    /// value owed (law `a_spent_future_is_not_polled`). If the answer is Memory, this holds of the turn in which memory
+    /// ran out, too (`still_polled`).
+    ///
+    /// The answer is Driver if and only if the driver's count of faults rose in this call, also if memory ran out after
+    /// that (`faults`).
     ///
     /// The runtime's count of turns rises by the turns of the history (`turns`). It keeps its timers, or stays without them
     /// (`timers`). Each reading before a turn or a park is an instant (`blocked`).
@@ -252,8 +255,8 @@ where
     /// owes nothing, and each unfinished task whose last turn left it listed in the value is listed there still
     /// (`listed`).
     ///
-    /// Each task that ended was made unknown to the inbox, in order: those that had ended before, and those whose turns of the
-    /// history ended ready. So no ended task stays known (`retired`). If memory ran out, some may wait for it (`closed`).
+    /// The runtime made each task that ended unknown to the inbox, in order, and no other: those that had ended before,
+    /// and those whose turns of the history ended ready (`retired`). If memory ran out, some may wait for it (`closed`).
     ///
     /// An Ok value is one that the main future gives, if each future has its task's number (`given`). No task may
     /// answer more afterwards than it might before (`answers`).

@@ -390,8 +390,8 @@ impl<F: Drop, O: Outcome + Drop, D: Driver, P: ThreadPool + Drop, W: SharedState
 /// Makes a runtime with the defaults on this driver, and runs the future on it as `Runtime::block_on` does. There is a
 /// history from the machine's start that `Blocked` specifies for the answer (`history`). Its readings and parks are the
 /// driver's. Each park ends at the next expiration over the registered ticks, of which there are none at the start. Each
-/// turn is one poll of its task's own future, also the one in which memory ran out. An answer is one that the future gives
-/// (`given`). The tasks share nothing, so no clause is about what a park finds in the shared value.
+/// turn is one poll of its task's own future, or none if that is spent, also the one in which memory ran out. An answer is
+/// one that the future gives (`given`). The tasks share nothing, so no clause is about what a park finds in the shared value.
 ///
 /// The future can be polled, and so can each that a turn spawns (`callable`, `others`).
 pub fn start<D, F, O, P, R: Host>(

@@ -76,9 +76,11 @@ where
     /// with the handle: `poll_join` and `drop_join` return it (`given`).
     ///
     /// All else is as in [`Runtime::block_on`], but that no task is made and no handle dropped: the history grows by
-    /// the entries that `Ends` specifies (`ends`). Each turn is a poll, and each park finds its tasks listed, whatever the answer (`still_polled`, `listed`). The answer is Turns if the budget is spent, also for a task that
-    /// never has an output. No task may answer more afterwards than before (`answers`), so the output is one that the
-    /// spawned future gives (`mono_answers`).
+    /// the entries that `Ends` specifies (`ends`). Each turn is a poll, or none if the future is spent, and each park
+    /// finds its tasks listed, whatever the answer (`still_polled`, `listed`).
+    ///
+    /// The answer is Turns if the budget is spent, also for a task that never has an output. No task may answer more
+    /// afterwards than before (`answers`), so the output is one that the spawned future gives (`mono_answers`).
     ///
     /// ```rust
     /// // test_runtime/src/handles.rt
