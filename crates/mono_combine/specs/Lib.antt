@@ -10,3 +10,4 @@ pub mod Selects
 pub mod BranchLists
 pub mod TryLists
 pub mod ListSelects
+pub mod Unlikes

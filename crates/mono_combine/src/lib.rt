@@ -19,6 +19,8 @@ mod start;
 mod try_join_list;
 mod try_joins;
 mod try_list;
+mod unlike_selects;
+mod unlikes;
 
 pub use branch::Look;
 pub use join_list::JoinList;
@@ -36,3 +38,5 @@ pub use select_list::SelectList;
 pub use start::Start;
 pub use try_join_list::TryJoinList;
 pub use try_joins::TryJoin2;
+pub use unlike_selects::{Select3, Select4, Select5, select3, select4, select5};
+pub use unlikes::{OneOf3, OneOf4, OneOf5, Out3, Out4, Out5};

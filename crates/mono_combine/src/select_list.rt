@@ -24,10 +24,10 @@ use std::alloc::Global;
 /// A poll requires (`can_poll`) that the predicate may be called with each output that a branch may give.
 #[derive(Drop)]
 pub struct SelectList<T, G> {
-    branches: Vec<Branch<T>>,
-    test: G,
-    start: Start,
-    has_answered: bool,
+    pub(crate) branches: Vec<Branch<T>>,
+    pub(crate) test: G,
+    pub(crate) start: Start,
+    pub(crate) has_answered: bool,
     ghost some: { 0 < vec_len branches },
     ghost few: { vec_len branches ≤ 64 },
 }
