@@ -1,13 +1,21 @@
 -- Whom a notice keeps, and whom it hands out.
-use Rattle.std.proofs.Common.{◌≡◌, ◌<◌, ◌-◌, ◌||◌, ◌⊎◌, ℕ, zero, suc, Bool, true, false, cond, MatchBool, List, [], ◌∷◌, Option, Some, None, refl, sym, ap, ◌∙◌, nat_lt, inl, inr, arith}
+use Rattle.std.proofs.Common.{◌≡◌, ◌<◌, ◌-◌, ◌||◌, ◌⊎◌, ℕ, zero, suc, Bool, true, false, cond, MatchBool, List, [], ◌∷◌, Option, Some, None, Ok, Err, refl, sym, ap, ◌∙◌, nat_lt, inl, inr, arith}
+use Rattle.std.specs.Prelude.{⊤, Result}
+use Rattle.std.specs.declared.alloc.AllocError.{AllocError}
+use Rattle.mono_model.specs.Tasks.{Tasks}
+use Rattle.mono_model.specs.Poll.{IfReady}
+use Rattle.mono_model.specs.declared.poll.Poll.{Poll}
+use Rattle.mono_model.specs.declared.poll.Poll.TheVariants.{Ready, Pending}
+use Rattle.mono_sync.specs.Notifications.{NotifiedPolls, NotifiedGives}
 use Rattle.mono_task.specs.Owed.{Keeps, Hands}
 use Rattle.mono_sync.specs.declared.lines.Waiter.{Waiter}
 use Rattle.mono_sync.specs.declared.lines.Coming.TheVariants.{Waits, Free, Full}
 use Rattle.mono_sync.specs.declared.notices.Notify.{Notify}
+use Rattle.mono_sync.specs.declared.notices.Cleared.{Cleared}
 use Rattle.mono_sync.specs.declared.notices.Notifying.{Notifying}
 use Rattle.mono_sync.specs.declared.notices.Notifying.TheVariants as notifying
 use Rattle.mono_sync.specs.Lines.{Pops, holder_of, starts_below}
-use Rattle.mono_sync.specs.Notices.{on_notice, owed_by, listed_by, NotifiesOne, AwaitsFirst, AwaitsAgain, Awaits, GivesUp, GivesUpOf, PaysOne, Pays}
+use Rattle.mono_sync.specs.Notices.{on_notice, owed_by, listed_by, NotifiesOne, AwaitsFirst, AwaitsAgain, Awaits, GivesUp, GivesUpOf, PaysOne, Pays, was_alone}
 use Rattle.mono_sync.proofs.WaitLemmas.{LineKept, to_places, line_same, kept_same, kept_joined, kept_tail, comes_keeps, leaves_keeps, joins_keeps, rests_keeps}
 
 of_line : (me : ℕ) (a b : Notify) → LineKept me a.line b.line → Keeps listed_by me a b
@@ -44,13 +52,16 @@ module _ (a b : Notify) (k me : ℕ) where
   drawn_if true s = line_stays me a b s.1
   drawn_if false s = line_stays me a b (ap (λ x. x.line) s)
 
-  absent_if : (c : Bool) → MatchBool c (b ≡ a) (MatchBool (nat_lt k a.line.next) (NotifiesOne a b) (b ≡ a)) → Keeps listed_by me a b
-  absent_if true s = line_stays me a b (ap (λ x. x.line) s)
-  absent_if false s = drawn_if (nat_lt k a.line.next) s
-
   gives_up_of : (o : Option ℕ) → GivesUpOf o a k me b → Keeps listed_by me a b
   gives_up_of (Some t) s = of_line me a b (leaves_keeps a.line b.line (Some k) me s.0)
-  gives_up_of None s = absent_if (nat_lt k a.cleared) s
+  gives_up_of None s = drawn_if (was_alone a k) s
+
+module _ {C : Type 0} (part : C → Notify) (number : C → ℕ) (work : C → Tasks ⊤) where
+  -- The answer of a poll is one that the future gives.
+  pub polls_give : (ticket : Option ℕ) (c : C) (r : Poll (Result ⊤ AllocError)) (left : Option ℕ) (d : C) → NotifiedPolls part number work ticket c r left d → IfReady r (NotifiedGives part number work)
+  polls_give ticket c (Ready (Ok done)) left d polled = record { ticket = ticket; at = c; after = d; polled = polled }
+  polls_give ticket c (Ready (Err e)) left d polled = record { ticket = ticket; at = c; after = d; polled = polled }
+  polls_give ticket c Pending left d polled = tt
 
 pub gives_up_keeps : (a b : Notify) (ticket : Option ℕ) (me : ℕ) → GivesUp a ticket me b → Keeps listed_by me a b
 gives_up_keeps a b None me s = line_stays me a b (ap (λ x. x.line) s)
@@ -65,7 +76,7 @@ nothing_due low (suc n) (w ∷ ws) is none = absurd (some_left none)
     some_left (inl e) = omega (arith, e)
     some_left (inr e) = cc
 
-cleared_due : (low n : ℕ) (w : Waiter) (ws : List Waiter) → nat_lt w.ticket low ≡ true → on_notice low n (w ∷ ws) ≡ w.task ∷ on_notice low n ws
+pub cleared_due : (low n : ℕ) (w : Waiter) (ws : List Waiter) → nat_lt w.ticket low ≡ true → on_notice low n (w ∷ ws) ≡ w.task ∷ on_notice low n ws
 cleared_due low zero w ws is = ap (λ c. cond c (w.task ∷ on_notice low zero ws) []) is
 cleared_due low (suc n) w ws is = ap (λ c. w.task ∷ on_notice low (cond (c || w.has_left) (suc n) n) ws) is
 
@@ -77,9 +88,9 @@ one_due low (suc n) w ws is some = ap (λ c. w.task ∷ on_notice low (cond (c |
     before m = omega arith
 
 module _ (a b : Notify) where
-  none_if : (c : Bool) → starts_below a.cleared a.line.waiters.items ≡ c → MatchBool c (Pops a.line None b.line × (b.pending ≡ a.pending)) (PaysOne a None b) → owed_by a ≡ []
-  none_if true is s = ap (on_notice a.cleared a.pending) s.0.0
-  none_if false is s = nothing_due a.cleared a.pending a.line.waiters.items is s.0
+  none_if : (c : Bool) → starts_below a.cleared.next a.line.waiters.items ≡ c → MatchBool c (Pops a.line None b.line × (b.pending ≡ a.pending)) (PaysOne a None b) → owed_by a ≡ []
+  none_if true is s = ap (on_notice a.cleared.next a.pending) s.0.0
+  none_if false is s = nothing_due a.cleared.next a.pending a.line.waiters.items is s.0
 
   line_if : (c : Bool) → MatchBool c (Pops a.line None b.line × (b.pending ≡ a.pending)) (PaysOne a None b) → b.line ≡ a.line
   line_if true s = s.0.1
@@ -91,15 +102,15 @@ module _ (a b : Notify) where
 
   pub none_hands : Pays a None b → Hands listed_by owed_by a None b
   none_hands s =
-      let c = starts_below a.cleared a.line.waiters.items in
+      let c = starts_below a.cleared.next a.line.waiters.items in
       (none_if c refl s.0, λ i. record { pending = pending_if c s.0 i; line = line_if c s.0 i; cleared = s.1 i })
 
   module _ (w : Waiter) where
-    first_if : (c : Bool) → starts_below a.cleared a.line.waiters.items ≡ c → MatchBool c (Pops a.line (Some w) b.line × (b.pending ≡ a.pending)) (PaysOne a (Some w) b) → owed_by a ≡ w.task ∷ on_notice a.cleared b.pending b.line.waiters.items
+    first_if : (c : Bool) → starts_below a.cleared.next a.line.waiters.items ≡ c → MatchBool c (Pops a.line (Some w) b.line × (b.pending ≡ a.pending)) (PaysOne a (Some w) b) → owed_by a ≡ w.task ∷ on_notice a.cleared.next b.pending b.line.waiters.items
     first_if true is s =
-        ap (on_notice a.cleared a.pending) s.0.0 ∙ cleared_due a.cleared a.pending w b.line.waiters.items (sym (ap (starts_below a.cleared) s.0.0) ∙ is) ∙ ap (λ n. w.task ∷ on_notice a.cleared n b.line.waiters.items) (sym s.1)
+        ap (on_notice a.cleared.next a.pending) s.0.0 ∙ cleared_due a.cleared.next a.pending w b.line.waiters.items (sym (ap (starts_below a.cleared.next) s.0.0) ∙ is) ∙ ap (λ n. w.task ∷ on_notice a.cleared.next n b.line.waiters.items) (sym s.1)
     first_if false is s =
-        ap (on_notice a.cleared a.pending) s.1.0 ∙ one_due a.cleared a.pending w b.line.waiters.items (sym (ap (starts_below a.cleared) s.1.0) ∙ is) s.0 ∙ ap (λ n. w.task ∷ on_notice a.cleared n b.line.waiters.items) (sym s.2)
+        ap (on_notice a.cleared.next a.pending) s.1.0 ∙ one_due a.cleared.next a.pending w b.line.waiters.items (sym (ap (starts_below a.cleared.next) s.1.0) ∙ is) s.0 ∙ ap (λ n. w.task ∷ on_notice a.cleared.next n b.line.waiters.items) (sym s.2)
 
     out_if : (c : Bool) → MatchBool c (Pops a.line (Some w) b.line × (b.pending ≡ a.pending)) (PaysOne a (Some w) b) → LineKept w.task a.line b.line
     out_if true s = kept_tail w a.line.waiters.items b.line.waiters.items s.0.0
@@ -107,5 +118,5 @@ module _ (a b : Notify) where
 
     pub first_hands : Pays a (Some w) b → Hands listed_by owed_by a (Some w.task) b
     first_hands s =
-        let c = starts_below a.cleared a.line.waiters.items in
-        (first_if c refl s.0 ∙ ap (λ low. w.task ∷ on_notice low b.pending b.line.waiters.items) (sym s.1), of_line w.task a b (out_if c s.0))
+        let c = starts_below a.cleared.next a.line.waiters.items in
+        (first_if c refl s.0 ∙ ap (λ (m : Cleared). w.task ∷ on_notice m.next b.pending b.line.waiters.items) (sym s.1), of_line w.task a b (out_if c s.0))

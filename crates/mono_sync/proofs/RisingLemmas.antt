@@ -10,7 +10,7 @@ use Rattle.mono_sync.specs.declared.notices.Notifying.TheVariants as notifying
 use Rattle.mono_sync.specs.declared.watch.Watch.{Watch}
 use Rattle.mono_sync.specs.declared.watch.Changing.TheVariants as changing
 use Rattle.mono_sync.specs.Lines.{Pops, waits_at, below, tasks_of, holder_of, starts_below}
-use Rattle.mono_sync.specs.Notices.{on_notice, NotifiesOne, AwaitsFirst, AwaitsAgain, GivesUpOf, PaysOne}
+use Rattle.mono_sync.specs.Notices.{on_notice, NotifiesOne, AwaitsFirst, AwaitsAgain, GivesUpOf, PaysOne, was_alone}
 use Rattle.mono_sync.specs.NoticeRuns as notices
 use Rattle.mono_sync.specs.WatchRuns as watches
 use Rattle.mono_sync.specs.Runs.{Run}
@@ -57,13 +57,9 @@ module _ (a b : Notify) where
   drawn_if true s r = kept_line a.line b.line s.1 r
   drawn_if false s r = kept_line a.line b.line (ap (λ x. x.line) s) r
 
-  absent_if : (k : ℕ) (c : Bool) → MatchBool c (b ≡ a) (MatchBool (nat_lt k a.line.next) (NotifiesOne a b) (b ≡ a)) → Rising a.line → Rising b.line
-  absent_if k true s r = kept_line a.line b.line (ap (λ x. x.line) s) r
-  absent_if k false s r = drawn_if (nat_lt k a.line.next) s r
-
   gives_up_of : (k me : ℕ) (o : Option ℕ) → GivesUpOf o a k me b → Rising a.line → Rising b.line
   gives_up_of k me (Some t) s r = leaves_rises a.line b.line (Some k) me s.0 r
-  gives_up_of k me None s r = absent_if k (nat_lt k a.cleared) s r
+  gives_up_of k me None s r = drawn_if (was_alone a k) s r
 
   pays_one : (first : Option Waiter) → PaysOne a first b → Rising a.line → Rising b.line
   pays_one None s r = kept_line a.line b.line s.1 r
@@ -99,14 +95,14 @@ notice_step (notices.asked (Some k) me x) a b r s = asked_if a b k me x (nat_lt 
 notice_step (notices.asked None me x) a b r s = first_step a b me x s r
 notice_step (notices.gave_up None me) a b r s = kept_line a.line b.line (ap (λ x. x.line) s) r
 notice_step (notices.gave_up (Some k) me) a b r s = gives_up_of a b k me (holder_of a.line.waiters.items k) s r
-notice_step (notices.served first) a b r s = pays_if a b first (starts_below a.cleared a.line.waiters.items) s.0 r
+notice_step (notices.served first) a b r s = pays_if a b first (starts_below a.cleared.next a.line.waiters.items) s.0 r
 
 notice_run : (es : List notices.Event) (a b : Notify) → Rising a.line → Run notices.Step a es b → Rising b.line
 notice_run [] a b r run = kept_line a.line b.line (ap (λ x. x.line) run) r
 notice_run (e ∷ es) a b r (m, step, rest) = notice_run es m b (notice_step e a m r step) rest
 
 pub no_notice : NoNoticeLiesIdle
-no_notice es a b k t r run none listed = notice_late b.cleared b.pending b.line.next k t b.line.waiters.items (notice_run es a b r run) none listed
+no_notice es a b k t r run none listed = notice_late b.cleared.next b.pending b.line.next k t b.line.waiters.items (notice_run es a b r run) none listed
 
 takes_rising : (low : ℕ) (a b : Line) (first : Option Waiter) (c : Bool) → MatchBool c (Pops a first b) ((first ≡ None) × (b ≡ a)) → Rising a → Rising b
 takes_rising low a b first true s r = pops_rising a b first s r

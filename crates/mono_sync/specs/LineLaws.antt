@@ -8,7 +8,8 @@ use Rattle.mono_sync.specs.declared.mpsc.Channel.{Channel}
 use Rattle.mono_sync.specs.declared.mpsc.Sending.TheVariants as sending
 use Rattle.mono_sync.specs.declared.mpsc.Receiving.TheVariants as receiving
 use Rattle.mono_sync.specs.declared.notices.Notify.{Notify}
-use Rattle.mono_sync.specs.Lines.{holder_of, tasks_of}
+use Rattle.mono_sync.specs.Lines.{holder_of, starts_below, tasks_of}
+use Rattle.mono_sync.specs.Laws.{Rises}
 use Rattle.mono_sync.specs.Semaphores as semaphore
 use Rattle.mono_sync.specs.SemaphoreRuns as semaphores
 use Rattle.mono_sync.specs.Mpsc as channel
@@ -60,8 +61,17 @@ PassesItsPlaceOn T = (es : List (channels.Event T)) (a b c : Channel T) (k me : 
 
 -- If a future that was notified alone is given up, the first task that waits is owed its notice.
 abbrev pub PassesItsNoticeOn : Type 0
-PassesItsNoticeOn = (a b : Notify) (k me : ℕ) (w : Waiter) (ws : List Waiter) → k < a.line.next → a.cleared ≤ k → holder_of a.line.waiters.items k ≡ None → a.line.waiters.items ≡ w ∷ ws
+PassesItsNoticeOn = (a b : Notify) (k me : ℕ) (w : Waiter) (ws : List Waiter) → notice.was_alone a k ≡ true → holder_of a.line.waiters.items k ≡ None → a.line.waiters.items ≡ w ∷ ws
     → notice.GivesUp a (Some k) me b → (us : List ℕ) × (notice.owed_by b ≡ w.task ∷ us)
+
+-- Each task that waits at a notice to all is owed it, also one whose future was enabled and not polled.
+abbrev pub NoticeReachesAll : Type 0
+NoticeReachesAll = (a b : Notify) → Rises 0 a.line.waiters.items a.line.next → notice.NotifiesAll a b → notice.owed_by b ≡ notice.waiting_in a
+
+-- A future that was notified alone still passes its notice on after a notice to all.
+abbrev pub NoticeOutlivesNoticeToAll : Type 0
+NoticeOutlivesNoticeToAll = (a b c : Notify) (w : Waiter) → Rises 0 a.line.waiters.items a.line.next → starts_below a.cleared.next a.line.waiters.items ≡ false → notice.Pays a (Some w) b
+    → notice.NotifiesAll b c → notice.was_alone c w.ticket ≡ true
 
 -- A number that was never drawn and with which no task waits is no ticket: a future asks with it as one without a ticket, and
 -- changes nothing if it is given up.

@@ -1,12 +1,12 @@
 -- A notice, and the effect of its calls.
-use Rattle.std.specs.Prelude.{Bool, ◌==◌, ◌||◌, nat_lt, ◌≡◌, ◌<◌, ◌≤◌, ◌+◌, ◌-◌, ◌⊎◌, if◌then◌else◌, MatchBool, ℕ, zero, suc, List, [], ◌∷◌, length, Option, Some, None, Ok}
+use Rattle.std.specs.Prelude.{Bool, ◌==◌, ◌||◌, ◌&&◌, nat_lt, nat_le, ◌≡◌, ◌<◌, ◌≤◌, ◌+◌, ◌-◌, ◌⊎◌, if◌then◌else◌, MatchBool, ℕ, zero, suc, List, [], ◌∷◌, length, Option, Some, None, Ok}
 use Rattle.mono_sync.specs.declared.lines.Waiter.{Waiter}
 use Rattle.mono_sync.specs.declared.lines.Line.{Line}
 use Rattle.mono_sync.specs.declared.lines.Coming.TheVariants.{Waits, Free, Full}
 use Rattle.mono_sync.specs.declared.notices.Notify.{Notify}
 use Rattle.mono_sync.specs.declared.notices.Notifying.{Notifying}
 use Rattle.mono_sync.specs.declared.notices.Notifying.TheVariants as notifying
-use Rattle.mono_sync.specs.Lines.{Comes, Joins, Leaves, Pops, SameLine, holder_of, lists_at, starts_below, tasks_of}
+use Rattle.mono_sync.specs.Lines.{Comes, Joins, Leaves, Pops, SameLine, holder_of, lists_at, starts_below, first_ticket, tasks_of}
 
 -- The tasks that are to be woken: those that waited at the last notice to all, and one for each notice to one.
 abbrev pub on_notice : ℕ → ℕ → List Waiter → List ℕ
@@ -15,7 +15,7 @@ on_notice low zero (w ∷ ws) = if nat_lt w.ticket low then w.task ∷ on_notice
 on_notice low (suc n) (w ∷ ws) = w.task ∷ on_notice low (if nat_lt w.ticket low || w.has_left then suc n else n) ws
 
 abbrev pub owed_by : Notify → List ℕ
-owed_by a = on_notice a.cleared a.pending a.line.waiters.items
+owed_by a = on_notice a.cleared.next a.pending a.line.waiters.items
 
 -- A place is a ticket.
 abbrev pub listed_by : Notify → List ℕ → ℕ → Bool
@@ -37,9 +37,10 @@ most a = if length a.line.waiters.items == 0 then 1 else length a.line.waiters.i
 abbrev pub NotifiesOne : Notify → Notify → Type 0
 NotifiesOne a b = MatchBool (nat_lt a.pending (most a)) (b.pending ≡ a.pending + 1) (b.pending ≡ a.pending) × (b.line ≡ a.line) × (b.cleared ≡ a.cleared)
 
--- All tasks that wait are notified, and no other. A kept notice stays.
+-- All tasks that wait are notified, and no other. A kept notice stays. Of the tickets drawn since the notice to all before,
+-- those that had left the line were notified alone.
 abbrev pub NotifiesAll : Notify → Notify → Type 0
-NotifiesAll a b = MatchBool (length a.line.waiters.items == 0) (b.pending ≡ a.pending) (b.pending ≡ 0) × (b.line ≡ a.line) × (b.cleared ≡ a.line.next)
+NotifiesAll a b = MatchBool (length a.line.waiters.items == 0) (b.pending ≡ a.pending) (b.pending ≡ 0) × (b.line ≡ a.line) × (b.cleared ≡ record { before = a.cleared.next; alone = first_ticket a.line; next = a.line.next })
 
 -- No notice is kept for a future that asks.
 abbrev pub KeepsNone : Notify → Type 0
@@ -48,9 +49,9 @@ KeepsNone a = (a.pending ≡ 0) ⊎ (1 ≤ a.line.granted + length a.line.waiter
 -- A future of this task asks with a ticket that it drew. It waits, or was notified, or waits from now on.
 abbrev pub AwaitsAgain : Notify → ℕ → ℕ → Notifying → Notify → Type 0
 AwaitsAgain a k me notifying.Waits b = Comes a.line (Some k) me 1 Waits b.line × Kept a b
-AwaitsAgain a k me notifying.Notified b = (Comes a.line (Some k) me 1 Free b.line ⊎ (Comes a.line (Some k) me 1 Full b.line × (k < a.cleared))) × Kept a b
-AwaitsAgain a k me notifying.Memory b = ((l : Line) × (Comes a.line (Some k) me 1 Full l × (a.cleared ≤ k) × SameLine l b.line)) × Kept a b
-AwaitsAgain a k me (notifying.Joined u) b = ((l : Line) × (Comes a.line (Some k) me 1 Full l × (a.cleared ≤ k) × Joins l me (Ok u) b.line)) × Kept a b
+AwaitsAgain a k me notifying.Notified b = (Comes a.line (Some k) me 1 Free b.line ⊎ (Comes a.line (Some k) me 1 Full b.line × (k < a.cleared.next))) × Kept a b
+AwaitsAgain a k me notifying.Memory b = ((l : Line) × (Comes a.line (Some k) me 1 Full l × (a.cleared.next ≤ k) × SameLine l b.line)) × Kept a b
+AwaitsAgain a k me (notifying.Joined u) b = ((l : Line) × (Comes a.line (Some k) me 1 Full l × (a.cleared.next ≤ k) × Joins l me (Ok u) b.line)) × Kept a b
 
 -- A future of this task asks without a ticket. It takes the kept notice, or waits from now on.
 abbrev pub AwaitsFirst : Notify → ℕ → Notifying → Notify → Type 0
@@ -64,9 +65,14 @@ abbrev pub Awaits : Notify → Option ℕ → ℕ → Notifying → Notify → T
 Awaits a None me r b = AwaitsFirst a me r b
 Awaits a (Some k) me r b = MatchBool (nat_lt k a.line.next) (AwaitsAgain a k me r b) (AwaitsFirst a me r b)
 
+-- Whether a future with this ticket that has left the line was notified alone: since the last notice to all, or before it and
+-- since the one before.
+abbrev pub was_alone : Notify → ℕ → Bool
+was_alone a k = if nat_lt k a.cleared.next then nat_le a.cleared.before k && nat_lt k a.cleared.alone else nat_lt k a.line.next
+
 abbrev pub GivesUpOf : Option ℕ → Notify → ℕ → ℕ → Notify → Type 0
 GivesUpOf (Some t) a k me b = Leaves a.line (Some k) me b.line × Kept a b
-GivesUpOf None a k me b = MatchBool (nat_lt k a.cleared) (b ≡ a) (MatchBool (nat_lt k a.line.next) (NotifiesOne a b) (b ≡ a))
+GivesUpOf None a k me b = MatchBool (was_alone a k) (NotifiesOne a b) (b ≡ a)
 
 -- A future leaves the line, in a turn of this task. A future that was notified alone passes its notice on. A number that was
 -- never drawn changes nothing.
@@ -81,4 +87,4 @@ PaysOne a (Some w) b = (0 < a.pending) × Pops a.line (Some w) b.line × (b.pend
 
 -- The first waiting task is woken, if it waited at the last notice to all, or there is a notice to one.
 abbrev pub Pays : Notify → Option Waiter → Notify → Type 0
-Pays a first b = MatchBool (starts_below a.cleared a.line.waiters.items) (Pops a.line first b.line × (b.pending ≡ a.pending)) (PaysOne a first b) × (b.cleared ≡ a.cleared)
+Pays a first b = MatchBool (starts_below a.cleared.next a.line.waiters.items) (Pops a.line first b.line × (b.pending ≡ a.pending)) (PaysOne a first b) × (b.cleared ≡ a.cleared)

@@ -77,7 +77,7 @@ NoDeliveryLiesIdle T = (a : Oneshot T) (k t : ℕ) → oneshot.owed_by a ≡ [] 
 -- notice to all.
 abbrev pub NoNoticeLiesIdle : Type 0
 NoNoticeLiesIdle = (es : List notices.Event) (a b : Notify) (k t : ℕ) → Rises 0 a.line.waiters.items a.line.next → Run notices.Step a es b
-    → notice.owed_by b ≡ [] → notice.listed_by b (k ∷ []) t ≡ true → (b.pending ≡ 0) × (b.cleared ≤ k)
+    → notice.owed_by b ≡ [] → notice.listed_by b (k ∷ []) t ≡ true → (b.pending ≡ 0) × (b.cleared.next ≤ k)
 
 -- While a watched value owes nothing and a task waits, whatever was called, it is open, and the task came after the last
 -- send.

@@ -2,7 +2,7 @@
 ghost use Rattle.std.specs.Prelude.{◌≡◌, [], ℕ};
 ghost use Rattle.mono_sync.specs.Runs.{Leads, leads_itself, leads_on};
 ghost use Rattle.mono_sync.specs.NoticeRuns.{Step};
-ghost use Rattle.mono_sync.specs.Notices.{owed_by, listed_by, waiting_in, most, NotifiesOne, NotifiesAll, AwaitsFirst, AwaitsAgain, Awaits, GivesUp, Pays, PaysOne};
+ghost use Rattle.mono_sync.specs.Notices.{owed_by, listed_by, waiting_in, most, NotifiesOne, NotifiesAll, AwaitsFirst, AwaitsAgain, Awaits, GivesUp, Pays, PaysOne, was_alone};
 ghost use Rattle.mono_sync.specs.Lines.{has_task};
 ghost use Rattle.mono_sync.specs.Listed.{notice_some};
 ghost use Rattle.mono_task.specs.Owed.{Keeps};
@@ -19,8 +19,18 @@ pub struct Notify {
     // How many notices to one no task has got. If no task waits, one of them is kept, and no more.
     pub(crate) pending: usize,
     pub(crate) line: Line,
+    pub(crate) cleared: Cleared,
+}
+
+/// The last notice to all, by the tickets that were drawn before it.
+#[derive(Clone, Copy)]
+pub struct Cleared {
+    // Tickets below this one were drawn before the notice to all before it.
+    pub(crate) before: u64,
+    // Of the tickets drawn since, those below this one had left the line: each was notified alone.
+    pub(crate) alone: u64,
     // Tickets below this one were drawn before the last notice to all.
-    pub(crate) cleared: u64,
+    pub(crate) next: u64,
 }
 
 /// The answer to a future that asks for a notice.
@@ -68,12 +78,16 @@ impl Notify {
         ensures waiters { result.line.waiters.items ≡ [] }
         ensures granted { result.line.granted ≡ 0 }
         ensures kept { result.pending ≡ 0 }
-        ensures tickets { (result.line.next ≡ 0) × (result.cleared ≡ 0) }
+        ensures tickets { (result.line.next ≡ 0) × (result.cleared ≡ record { before = 0; alone = 0; next = 0 }) }
     {
         Notify {
             pending: 0,
             line: Line::new(alloc),
-            cleared: 0,
+            cleared: Cleared {
+                before: 0,
+                alone: 0,
+                next: 0,
+            },
         }
     }
 
@@ -110,7 +124,11 @@ impl Notify {
         ensures answer { NotifiesAll self.old self.new }
         ensures keeps { (me : ℕ) → Keeps listed_by me self.old self.new }
     {
-        self.cleared = self.line.next;
+        self.cleared = Cleared {
+            before: self.cleared.next,
+            alone: self.line.first_ticket(),
+            next: self.line.next,
+        };
         if self.line.waiters.len() == 0 {
             return;
         }
@@ -139,7 +157,7 @@ impl Notify {
             Coming::Waits => Notifying::Waits,
             Coming::Free => Notifying::Notified,
             Coming::Full => {
-                if ticket < self.cleared {
+                if ticket < self.cleared.next {
                     return Notifying::Notified;
                 }
                 match self.line.join(me) {
@@ -173,6 +191,16 @@ impl Notify {
         self.ask(ticket, me)
     }
 
+    // Returns whether a future with this ticket that has left the line was notified alone.
+    fn was_alone(&self, ticket: u64) -> bool
+        ensures { result ≡ was_alone self.now ticket }
+    {
+        if ticket < self.cleared.next {
+            return self.cleared.before <= ticket && ticket < self.cleared.alone;
+        }
+        ticket < self.line.next
+    }
+
     // Takes a future out of the line, or passes its notice on.
     fn drop_out(&mut self, ticket: Option<u64>, me: u64)
         ensures { GivesUp self.old ticket me self.new }
@@ -182,17 +210,15 @@ impl Notify {
                 self.line.leave(Some(ticket), me);
                 return;
             }
-            if ticket < self.cleared {
-                return;
-            }
-            if ticket < self.line.next {
+            if self.was_alone(ticket) {
                 self.give();
             }
         }
     }
 
     /// Takes a future out of the line, in a turn of this task. If it was notified by `notify_one`, the notice goes to the
-    /// first task that waits, or is kept. A future that waited at the last `notify_waiters` passes nothing on.
+    /// first task that waits, or is kept. A future that waited at the last `notify_waiters` passes nothing on, and neither
+    /// does one that waited first before the `notify_waiters` before that.
     pub fn give_up(&mut self, ticket: Option<u64>, me: u64)
         ensures answer { GivesUp self.old ticket me self.new }
         ensures keeps { Keeps listed_by me self.old self.new }
@@ -223,7 +249,7 @@ impl Notify {
     fn pay(&mut self) -> Option<Waiter>
         ensures { Pays self.old result self.new }
     {
-        if self.line.starts_below(self.cleared) {
+        if self.line.starts_below(self.cleared.next) {
             return self.line.pop();
         }
         self.pay_one()

@@ -1,7 +1,7 @@
 // The calls of a task on a notice: it waits, and notifies.
 ghost use Rattle.std.specs.Prelude.{◌≡◌, true, false, ℕ};
 ghost use Rattle.std.specs.declared.option.Option.TheVariants.{None};
-ghost use Rattle.mono_model.specs.Poll.{OnReady};
+ghost use Rattle.mono_model.specs.Poll.{OnReady, OnPending};
 ghost use Rattle.mono_sync.specs.Notices.{NotifiesOne, NotifiesAll, Awaits, GivesUp};
 ghost use Rattle.mono_sync.specs.Notifications.{NotifiedPolls, NotifiedGives, NotifiedCancels};
 ghost use Rattle.mono_sync.specs.Spent.{notified_spent};
@@ -92,6 +92,36 @@ fn leave<W: Holds<Notify>, C: SharedContext<W>>(cx: &mut C, ticket: Option<u64>)
     leave_part(cx.shared_mut(), ticket, me)
 }
 
+impl<W: Holds<Notify>> Notified<W> {
+    /// Puts the future into the line without a poll, in a turn of the task that polls it later. So a notice that comes
+    /// before its first poll serves it, to one or to all. It has the answer and the effect of a poll (`polled`).
+    pub fn enable<C: SharedContext<W>>(&mut self, cx: &mut C) -> Poll<Result<(), AllocError>>
+        requires unspent { self.old.has_answered ≡ false }
+        ensures polled { NotifiedPolls (λ x. W.part (C.shared x)) C.number C.work self.old.ticket cx.old result self.new.ticket cx.new }
+        ensures ended { OnReady result ((self.new.ticket ≡ None) × (self.new.has_answered ≡ true)) }
+        ensures again { OnPending result (self.new.has_answered ≡ false) }
+        ensures reached { C.reaches cx.old cx.new }
+    {
+        match ask::<W, C>(cx, self.ticket) {
+            Notifying::Waits => Poll::Pending,
+            Notifying::Joined(ticket) => {
+                self.ticket = Some(ticket);
+                Poll::Pending
+            }
+            Notifying::Notified => {
+                self.ticket = None;
+                self.has_answered = true;
+                Poll::Ready(Ok(()))
+            }
+            Notifying::Memory => {
+                self.ticket = None;
+                self.has_answered = true;
+                Poll::Ready(Err(AllocError))
+            }
+        }
+    }
+}
+
 /// Notifies the first task that waits and has no notice, which the runtime wakes after the turn. If no task waits, the
 /// notice is kept.
 pub fn notify_one<W: Holds<Notify>, C: SharedContext<W>>(cx: &mut C)
@@ -133,23 +163,7 @@ impl<W: Holds<Notify>, C: SharedContext<W>> TaskFuture<C> for Notified<W> {
         _alloc: Global,
         cx: &mut C,
     ) -> Poll<Result<(), AllocError>> {
-        match ask::<W, C>(cx, self.ticket) {
-            Notifying::Waits => Poll::Pending,
-            Notifying::Joined(ticket) => {
-                self.ticket = Some(ticket);
-                Poll::Pending
-            }
-            Notifying::Notified => {
-                self.ticket = None;
-                self.has_answered = true;
-                Poll::Ready(Ok(()))
-            }
-            Notifying::Memory => {
-                self.ticket = None;
-                self.has_answered = true;
-                Poll::Ready(Err(AllocError))
-            }
-        }
+        self.enable(cx)
     }
 
     fn cancel(self, cx: &mut C) {

@@ -18,6 +18,8 @@ mod notices;
 #[cfg(test)]
 mod oneshots;
 #[cfg(test)]
+mod passed_on;
+#[cfg(test)]
 mod requests;
 #[cfg(test)]
 mod semaphores;
