@@ -13,3 +13,5 @@ mod logs;
 mod nests;
 #[cfg(test)]
 mod sequences;
+#[cfg(test)]
+mod unlikes;
