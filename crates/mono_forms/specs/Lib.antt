@@ -17,3 +17,4 @@ pub mod EitherRaces
 pub mod RaceLists
 pub mod LazySpawns
 pub mod Bodies
+pub mod Intervals

@@ -9,6 +9,7 @@ use crate::eithers::Either;
 use crate::flatten::{Flatten, Then};
 use crate::fuses::Fuse;
 use crate::inspectors::Inspect;
+use crate::intervals::IntervalFor;
 use crate::lazies::Lazy;
 use crate::lazy_spawns::LazySpawn;
 use crate::maps::{Map, MapErr, MapOk};
@@ -239,6 +240,8 @@ impl<A, B, G, H> FutureExt for Select2<A, B, G, H> {}
 impl<T, G> FutureExt for SelectList<T, G> {}
 
 impl FutureExt for Tick<'_> {}
+
+impl FutureExt for IntervalFor {}
 
 impl<S> FutureExt for Next<'_, S> {}
 

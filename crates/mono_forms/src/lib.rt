@@ -15,6 +15,7 @@ mod ext;
 mod flatten;
 mod fuses;
 mod inspectors;
+mod intervals;
 mod lazies;
 mod lazy_spawns;
 mod makers;
@@ -36,6 +37,7 @@ pub use ext::FutureExt;
 pub use flatten::{Flatten, Then};
 pub use fuses::Fuse;
 pub use inspectors::Inspect;
+pub use intervals::{IntervalFor, interval_for};
 pub use lazies::Lazy;
 pub use lazy_spawns::LazySpawn;
 pub use makers::{

@@ -14,4 +14,6 @@ mod nests;
 #[cfg(test)]
 mod sequences;
 #[cfg(test)]
+mod ticks;
+#[cfg(test)]
 mod unlikes;
