@@ -110,8 +110,7 @@ where
                 return answer;
             }
         }
-        let me = cx.me();
-        let _ = cx.wake(me);
+        cx.wake_me();
         Poll::Pending
     }
 

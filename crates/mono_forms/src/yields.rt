@@ -37,8 +37,7 @@ impl<C: Context> TaskFuture<C> for YieldNow {
     fn poll<R: Host>(&mut self, _rt: &R, _alloc: Global, cx: &mut C) -> Poll<()> {
         match self {
             YieldNow::Fresh => {
-                let me = cx.me();
-                let _ = cx.wake(me);
+                cx.wake_me();
                 *self = YieldNow::Woken;
                 Poll::Pending
             }

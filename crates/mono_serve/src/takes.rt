@@ -3,7 +3,6 @@ ghost use Rattle.std.specs.Prelude.{◌≡◌, false, ℕ};
 ghost use Rattle.std.specs.Option.{option_map};
 ghost use Rattle.std.specs.declared.option.Option.TheVariants.{None};
 ghost use Rattle.mono_model.specs.Poll.{OnPending};
-ghost use Rattle.mono_model.specs.Tasks.{woken};
 ghost use Rattle.mono_time.specs.Instants.{nanos_of};
 ghost use Rattle.mono_serve.specs.BucketCalls.{Enters, Asks, GivesUp};
 ghost use Rattle.mono_serve.specs.Takes.{deadline_of, is_over, MayGoOn, LeavesLine, FailsAwake, Naps, FirstNap, MakesSleep, Rests, AsksFor, GoesOn, TakePolls, TakeCancels};
@@ -166,16 +165,6 @@ fn leave<W: Holds<Buckets>, C: SharedContext<W>>(cx: &mut C, ticket: u64)
     leave_part(cx.shared_mut(), ticket, me)
 }
 
-// Queues the running task again after its turn.
-fn again<W: Holds<Buckets>, C: SharedContext<W>>(cx: &mut C)
-    ensures part { W.part (C.shared cx.new) ≡ W.part (C.shared cx.old) }
-    ensures work { C.work cx.new ≡ woken (C.work cx.old) (C.number cx.old) }
-    ensures reached { C.reaches cx.old cx.new }
-{
-    let me = cx.me();
-    let _ = cx.wake(me);
-}
-
 // Takes the running task's future out of the line, and says so in one clause.
 fn give_way<W: Holds<Buckets>, C: SharedContext<W>>(cx: &mut C, ticket: u64)
     ensures left { LeavesLine (λ x. W.part (C.shared x)) C.number C.work ticket cx.old cx.new }
@@ -259,7 +248,7 @@ impl<W> Take<W> {
         match self.nap(rt, alloc, cx, ticket, sleep) {
             Some(answer) => answer,
             None => {
-                again::<W, C>(cx);
+                cx.wake_me();
                 Poll::Pending
             }
         }

@@ -26,6 +26,6 @@ loop-left-preserved g c =
 pub returns-clause-polled : goal.returns-clause-polled
 returns-clause-polled g c =
     let none : c.loop-left.left ≡ 0 = search rules in
-    let woken : WakesItself g.C.Context.number g.C.Context.work g.C.Context.wakes g.C.Context.reaches c.loop-left.cx c.wake.new.self = search rules in
-    c.loop-left.invariant.onward Pending c.loop-left.self c.wake.new.self
-    (takes_none g.A.TaskFuture g.F.FnMut g.C.Context.number g.C.Context.work g.C.Context.wakes g.C.Context.reaches c.loop-left.left none c.loop-left.self c.loop-left.cx c.wake.new.self woken)
+    let woken : WakesItself g.C.Context.number g.C.Context.work g.C.Context.wakes g.C.Context.reaches c.loop-left.cx c.wake_me.new.self = search rules in
+    c.loop-left.invariant.onward Pending c.loop-left.self c.wake_me.new.self
+    (takes_none g.A.TaskFuture g.F.FnMut g.C.Context.number g.C.Context.work g.C.Context.wakes g.C.Context.reaches c.loop-left.left none c.loop-left.self c.loop-left.cx c.wake_me.new.self woken)
