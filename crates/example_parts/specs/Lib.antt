@@ -1,0 +1,3 @@
+pub mod Pulses
+pub mod Countdowns
+pub mod Nests

@@ -1,2 +1,0 @@
-pub mod Countdowns
-pub mod Nests
