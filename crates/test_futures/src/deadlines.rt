@@ -1,6 +1,6 @@
 //! A user's deadlines over the timers.
 use crate::desks::at_millis;
-use use_deadlines::Sessions;
+use example_parts::deadlines::Sessions;
 
 // Returns whether these sessions have expired at a time, after the earlier ones of the list.
 fn expires(sessions: &mut Sessions, millis: u32, gone: &mut Vec<u64>, told: &[u64]) -> bool {

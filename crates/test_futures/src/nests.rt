@@ -3,8 +3,8 @@ ghost use Rattle.std.specs.Prelude.{◌≡◌, ◌<◌};
 ghost use Rattle.mono_time.specs.Timers.{sleeps_of};
 
 use crate::desks::{Desk, at_millis, empty_desk};
+use example_parts::nests::begin;
 use mono_model::Host;
-use mono_nest::begin;
 use mono_time::{Error, Instant, TimeContext};
 use std::alloc::Global;
 

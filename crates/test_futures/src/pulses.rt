@@ -1,11 +1,11 @@
 //! A user's future by hand, poll by poll.
 use crate::desks::{Desk, at_millis, empty_desk, fires};
+use example_parts::pulses::Pulse;
 use mono_model::{Host, Poll};
 use mono_task::TaskFuture;
 use mono_time::sleep;
 use std::alloc::Global;
 use std::time::Duration;
-use use_pulse::Pulse;
 
 /// Returns whether a pulse whose sleep is due at once waits for the one period that it has left, and ends with it.
 fn waits_a_period<R: Host>(rt: &R, alloc: Global, cx: &mut Desk) -> bool {

@@ -1,8 +1,8 @@
 // A user's two jobs on a pool, on threads of their own.
+use example_parts::pairs::both;
 use mono_blocking::{DefaultThreadPool, Job, ThreadSpawner};
 use mono_inbox::{Inbox, Parker, UnparkHandle};
 use mono_joinword::Outcome;
-use use_pair::both;
 
 /// A job that returns its number.
 #[derive(Drop)]
