@@ -3,7 +3,7 @@
 
 usage: tools/cookbook.py [--check]
 
-Each file of a crate example_* but its main.rt has to be on the page. Under a heading, the files together have at most 60
+Each file of a crate of the page but its main.rt has to be on the page. Under a heading, the files together have at most 60
 lines, none writes a poll by hand, and the crate's stored run has each line of "prints `LINE`". With --check nothing is
 written, and the status is 1 if the page is not the one that the sources give.
 """
@@ -48,7 +48,8 @@ def faults(page):
         said = re.findall(r"`([^`]+)`", " ".join(re.findall(r"[Pp]rints (.*)", BLOCK.sub("", text))))
         found += [f"{heading}: no stored run prints `{line}`" for line in said if line not in printed]
     shown = {file for _, _, files in sections(page) for file in files}
-    sources = {file for file in glob.glob("crates/example_*/src/*.rt") if not file.endswith("/main.rt")}
+    crates = {os.path.join(*file.split("/")[:2]) for file in shown}
+    sources = {file for crate in crates for file in glob.glob(f"{crate}/src/*.rt") if not file.endswith("/main.rt")}
     return found + [f"{file}: not on the page" for file in sorted(sources - shown)]
 
 

@@ -28,9 +28,9 @@ KINDS = ("proof", "tests", "edits")
 # The lower half: the tables and the wheel, tasks, timers, the inbox, the join word, jobs, combinators, streams, the
 # machine with its executor and their lines, and the tests of these. The upper half is every other crate.
 LOWER = (
-    "mono_model mono_table mono_wheel mono_task mono_time mono_combine mono_stream mono_nest "
+    "mono_model mono_table mono_wheel mono_task mono_time mono_combine mono_stream "
     "mono_joinword mono_inbox mono_blocking mono_machine mono_replay "
-    "mono_text mono_forms mono_sync test_futures test_threads use_deadlines use_pulse use_pair"
+    "mono_text mono_forms mono_sync test_futures test_threads example_parts"
 ).split()
 
 
