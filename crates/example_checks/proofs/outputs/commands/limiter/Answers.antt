@@ -1,0 +1,8 @@
+use Rattle.std.specs.Prelude.{map, string_bytes}
+use Rattle.example_checks.proofs.OutputLemmas.{given}
+use Rattle.example_checks.proofs.LimiterLemmas.{words, input, output, limiter_gives}
+use Rattle.example_checks.proofs.outputs.commands.limiter.Goals as goal
+
+pub returns : goal.returns
+returns g c = λ few.
+    given words input output 0 _ _ _ _ (map string_bytes c.in_ok-words.words.items) c.in_ok-words.ensures few limiter_gives c.status_of.result c.status_of.ensures

@@ -1,0 +1,8 @@
+use Rattle.std.specs.Prelude.{map, string_bytes}
+use Rattle.example_checks.proofs.OutputLemmas.{given}
+use Rattle.example_checks.proofs.WrongCheckLemmas.{words, input, output, wrong_check_gives}
+use Rattle.example_checks.proofs.outputs.commands.wrong_check.Goals as goal
+
+pub returns : goal.returns
+returns g c = λ few.
+    given words input output 11 _ _ _ _ (map string_bytes c.in_ok-words.words.items) c.in_ok-words.ensures few wrong_check_gives c.status_of.result c.status_of.ensures

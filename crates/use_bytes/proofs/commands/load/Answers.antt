@@ -1,8 +1,0 @@
-use Rattle.std.specs.Prelude.{map, string_bytes, []}
-use Rattle.use_bytes.proofs.OutputLemmas.{given}
-use Rattle.use_bytes.proofs.LoadLemmas.{words, output, load_gives}
-use Rattle.use_bytes.proofs.commands.load.Goals as goal
-
-pub returns : goal.returns
-returns g c = λ few.
-    given words [] output 0 _ _ _ _ (map string_bytes c.in_ok-words.words.items) c.in_ok-words.ensures few load_gives c.status_of.result c.status_of.ensures

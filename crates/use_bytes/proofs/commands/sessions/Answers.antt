@@ -1,8 +1,0 @@
-use Rattle.std.specs.Prelude.{map, string_bytes}
-use Rattle.use_bytes.proofs.OutputLemmas.{given}
-use Rattle.use_bytes.proofs.SessionLemmas.{words, input, output, sessions_give}
-use Rattle.use_bytes.proofs.commands.sessions.Goals as goal
-
-pub returns : goal.returns
-returns g c = λ few.
-    given words input output 0 _ _ _ _ (map string_bytes c.in_ok-words.words.items) c.in_ok-words.ensures few sessions_give c.status_of.result c.status_of.ensures

@@ -1,6 +1,0 @@
-mod GreatestLemmas
-pub mod WholeCallLemmas
-pub mod WholeAnswerLemmas
-mod WholeExampleLemmas
-pub mod ReadingRangeLemmas
-pub mod LeftCallLemmas

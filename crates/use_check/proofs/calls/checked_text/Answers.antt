@@ -1,6 +1,0 @@
-use Rattle.use_check.proofs.WholeAnswerLemmas.{whole_answers_are_yes}
-use Rattle.use_check.proofs.calls.checked_text.Goals as goal
-
-pub returns : goal.returns
-returns c = λ has_timers calls part new are spells.
-    whole_answers_are_yes c.args.limits c.args.blocking has_timers calls part new c.args.text.now c.in_ok-answer.answer are spells c.in_ok-answer.ensures

@@ -1,5 +1,0 @@
-pub mod WholeCalls
-pub mod WholeAnswers
-pub mod WholeExamples
-pub mod ReadingRanges
-pub mod LeftCalls
