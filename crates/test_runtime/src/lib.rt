@@ -10,8 +10,6 @@ mod cases;
 #[cfg(test)]
 mod crowds;
 #[cfg(test)]
-mod naps;
-#[cfg(test)]
 mod pools;
 #[cfg(test)]
 mod runs;
