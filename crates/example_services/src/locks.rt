@@ -1,5 +1,4 @@
 //! Tasks of one runtime that wait for a lock in its queue.
-#![tactic(auto)]
 
 ghost use Rattle.std.specs.Prelude.{◌≡◌, IfSome};
 ghost use Rattle.mono_rt.specs.Views.{Rests, turn_of};
@@ -11,7 +10,6 @@ use mono_rt::{Host, JoinHandle, NoPool, Runtime, RuntimeBuilder, StepDriver, Tim
 use mono_serve::{Keeper, Leases};
 use mono_sync::Only;
 use std::alloc::Global;
-use std::io;
 
 type Running = Runtime<Client, u64, TimeDriver<StepDriver>, NoPool, Shared>;
 
@@ -21,9 +19,9 @@ type Handle = JoinHandle<u64>;
 fn lock_runtime(alloc: Global) -> Option<Running>
     ensures { IfSome result (λ made. Rests made) }
 {
+    let part = Leases::new(alloc, 3, 3).ok()?;
     let driver = TimeDriver::new(StepDriver::new(Vec::new(alloc)));
     let builder: RuntimeBuilder<TimeDriver<StepDriver>, NoPool> = RuntimeBuilder::new(driver);
-    let part = Leases::new(alloc, 3, 3).ok()?;
     match builder.build_sharing(alloc, Only { part }) {
         Ok(made) => Some(made),
         Err(_) => None,
@@ -67,23 +65,28 @@ fn spawn_all(
 }
 
 // Runs three tasks that hold one lock for these times. Returns at which millisecond each one released it.
-fn released_at<R: Host>(rt: &R, alloc: Global, times: (u64, u64, u64)) -> Option<(u64, u64, u64)> {
-    let mut runtime = lock_runtime(alloc)?;
-    let (first, second, third) = spawn_all(alloc, &mut runtime, times)?;
-    let first = output_of(rt, alloc, &mut runtime, first)?;
-    let second = output_of(rt, alloc, &mut runtime, second)?;
-    let third = output_of(rt, alloc, &mut runtime, third)?;
-    Some((first, second, third))
+fn run_all<R: Host>(
+    rt: &R,
+    alloc: Global,
+    runtime: &mut Running,
+    times: (u64, u64, u64),
+) -> Option<(u64, u64, u64)>
+    requires { Rests runtime.old }
+{
+    let (first, second, third) = spawn_all(alloc, runtime, times)?;
+    let first = output_of(rt, alloc, runtime, first);
+    let second = output_of(rt, alloc, runtime, second);
+    let third = output_of(rt, alloc, runtime, third);
+    Some((first?, second?, third?))
 }
 
-fn main(rt: HostRuntime) -> io::Result<()> {
-    for times in [(10, 20, 30), (30, 20, 10), (500, 400, 200)] {
-        match released_at(&rt, rt.alloc(), times) {
-            Some((first, second, third)) => println!(rt;
-                "released at {first}, {second} and {third} ms"
-            )?,
-            None => println!(rt; "gave up")?,
-        }
-    }
-    Ok(())
+/// Runs three tasks that hold one lock for these times on a runtime of their own. Returns at which millisecond each one
+/// released it, or None if one failed.
+pub fn released_at<R: Host>(
+    rt: &R,
+    alloc: Global,
+    times: (u64, u64, u64),
+) -> Option<(u64, u64, u64)> {
+    let mut runtime = lock_runtime(alloc)?;
+    run_all(rt, alloc, &mut runtime, times)
 }

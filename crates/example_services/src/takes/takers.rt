@@ -2,9 +2,9 @@
 ghost use Rattle.std.specs.Prelude.{◌≡◌};
 ghost use Rattle.mono_sync.specs.Runs.{Leads};
 ghost use Rattle.mono_serve.specs.BucketCalls.{Step};
-ghost use Rattle.use_takes.specs.Parties.{is_over};
+ghost use Rattle.example_services.specs.Parties.{is_over};
 
-use crate::shelves::{Note, Shelf};
+use crate::takes::shelves::{Note, Shelf};
 use mono_rt::{
     Host, LateError, Poll, SharedContext, SleepFor, TaskFuture, TimeContext, TimeoutFor, sleep_for,
     timeout_for,

@@ -3,8 +3,8 @@ use Rattle.std.specs.Prelude.{Bool}
 use Rattle.mono_time.specs.Naps.{nap_spent}
 use Rattle.mono_time.specs.NapTimeouts.{limit_spent}
 use Rattle.mono_serve.specs.Spent.{take_spent}
-use Rattle.use_takes.specs.declared.takers.Party.{Party}
-use Rattle.use_takes.specs.declared.takers.Party.TheVariants.{Takes, Naps}
+use Rattle.example_services.specs.declared.takes.takers.Party.{Party}
+use Rattle.example_services.specs.declared.takes.takers.Party.TheVariants.{Takes, Naps}
 
 abbrev pub is_over : Party → Bool
 is_over (Takes limited name) = limit_spent take_spent limited.both

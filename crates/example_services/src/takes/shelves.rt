@@ -3,7 +3,7 @@ ghost use Rattle.std.specs.Prelude.{[], refl};
 ghost use Rattle.mono_sync.specs.Runs.{Leads, leads_itself, leads_on};
 ghost use Rattle.mono_serve.specs.BucketCalls.{listed_in, waiting_in, owed_by, some_waits, Step};
 
-use crate::takers::Answer;
+use crate::takes::takers::Answer;
 use mono_rt::SharedState;
 use mono_serve::Buckets;
 use mono_sync::Holds;

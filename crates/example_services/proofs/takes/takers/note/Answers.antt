@@ -1,7 +1,7 @@
 use Rattle.std.proofs.Common.{inl, ap, ◌∙◌}
 use Rattle.mono_serve.specs.BucketCalls.{listed_in}
 use Rattle.mono_serve.specs.declared.buckets.Buckets.{Buckets}
-use Rattle.use_takes.proofs.takers.note.Goals as goal
+use Rattle.example_services.proofs.takes.takers.note.Goals as goal
 
 pub returns : goal.returns
 returns g c =

@@ -48,7 +48,7 @@ impl Client {
             Err(_) => Poll::Ready(0),
             Ok(session) => {
                 *self = Client::Waits(session, Acquire::new(session, KEY), length);
-                again(cx);
+                cx.wake_me();
                 Poll::Pending
             }
         }
@@ -76,7 +76,7 @@ impl Client {
             Poll::Ready(Err(_)) => Poll::Ready(0),
             Poll::Ready(Ok(())) => {
                 *self = Client::Holds(session, sleep_for(length));
-                again(cx);
+                cx.wake_me();
                 Poll::Pending
             }
         }
@@ -131,14 +131,6 @@ impl Client {
             Poll::Ready(_) => Poll::Ready(0),
         }
     }
-}
-
-// Queues the running task again after its turn.
-fn again<C: SharedContext<Shared>>(cx: &mut C)
-    ensures { C.reaches cx.old cx.new }
-{
-    let me = cx.me();
-    let _ = cx.wake(me);
 }
 
 impl<C: TimeContext + SharedContext<Shared>> TaskFuture<C> for Client {
