@@ -1,13 +1,15 @@
-//! Programs over journals and scripts: what the checker passes, the bytes of each output, and a driver of one's own.
+//! Programs over journals, scripts, drivers and simulations.
 #![tactic(auto)]
 
 mod checks;
 mod drivers;
 mod outputs;
+mod simulations;
 
 use drivers::nap_and_parks;
 use mono_script::{MemSink, StdoutSink, write_all};
 use outputs::{ROOM, statuses_of};
+use simulations::losses;
 use std::io;
 
 // Runs each command, prints the statuses, and then writes all outputs.
@@ -41,9 +43,21 @@ fn print_nap(rt: &HostRuntime, parks: u64, milliseconds: u64) -> io::Result<()> 
     }
 }
 
+// Prints under how many of a hundred seeds a careful and a hasty receiver lose a message.
+fn print_losses(rt: &HostRuntime) -> io::Result<()> {
+    let alloc = rt.alloc();
+    let (lost, _first) = losses(rt, alloc, false);
+    println!(rt; "{lost} of 100 seeds lose a message")?;
+    match losses(rt, alloc, true) {
+        (lost, Some(first)) => println!(rt; "hasty: {lost} of 100 seeds lose one, first {first}"),
+        (_, None) => println!(rt; "hasty: no seed loses one"),
+    }
+}
+
 fn main(rt: HostRuntime) -> io::Result<()> {
     print_outputs(&rt)?;
     print_nap(&rt, 1, 5)?;
     print_nap(&rt, 2, 100)?;
-    print_nap(&rt, 0, 5)
+    print_nap(&rt, 0, 5)?;
+    print_losses(&rt)
 }

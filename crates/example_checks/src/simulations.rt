@@ -1,5 +1,4 @@
 //! Two runtimes that talk over a channel, simulated under a hundred seeds. A hasty receiver loses messages under some.
-#![tactic(auto)]
 
 ghost use Rattle.std.specs.Prelude.{◌<◌, IfSome};
 ghost use Rattle.mono_rt.specs.Views.{Rests};
@@ -10,14 +9,13 @@ use mono_channel::channel;
 use mono_rt::{Host, JoinHandle, NoPool, Runtime, RuntimeBuilder};
 use mono_sim::{End, Odds, SimDriver, World};
 use std::alloc::Global;
-use std::io;
 use talks::Talk;
 
 type Talking = Runtime<Talk, u64, SimDriver, NoPool>;
 
 type Talks = World<Talk, u64, SimDriver, NoPool>;
 
-/// How many messages are sent.
+// How many messages are sent.
 const MESSAGES: u64 = 10;
 
 const ODDS: Odds = Odds {
@@ -61,8 +59,8 @@ fn talk<R: Host>(rt: &R, alloc: Global, seed: u64, is_hasty: bool) -> Option<(En
     Some((end, output(&mut world, 0)?, output(&mut world, 1)?))
 }
 
-// Returns under how many of a hundred seeds messages are lost, and the first of them.
-fn losses<R: Host>(rt: &R, alloc: Global, is_hasty: bool) -> (u64, Option<u64>) {
+/// Returns under how many of a hundred seeds messages are lost, and the first of them.
+pub fn losses<R: Host>(rt: &R, alloc: Global, is_hasty: bool) -> (u64, Option<u64>) {
     let mut lost = 0u64;
     let mut first = None;
     for seed in 0..100u64 {
@@ -73,14 +71,4 @@ fn losses<R: Host>(rt: &R, alloc: Global, is_hasty: bool) -> (u64, Option<u64>) 
         }
     }
     (lost, first)
-}
-
-fn main(rt: HostRuntime) -> io::Result<()> {
-    let alloc = rt.alloc();
-    let (lost, _first) = losses(&rt, alloc, false);
-    println!(rt; "{lost} of 100 seeds lose a message")?;
-    match losses(&rt, alloc, true) {
-        (lost, Some(first)) => println!(rt; "hasty: {lost} of 100 seeds lose one, first {first}"),
-        (_, None) => println!(rt; "hasty: no seed loses one"),
-    }
 }
