@@ -23,7 +23,7 @@ sys.path.insert(0, os.path.join(os.path.dirname(os.path.abspath(__file__)), ".."
 import below
 from unproved import keep
 
-CRATES = ("test_threads", "test_runtime", "test_channel")
+CRATES = ("test_threads", "test_runtime")
 HELGRIND = ("valgrind", "-q", "--tool=helgrind", "--error-exitcode=99")
 LIMIT = 600
 

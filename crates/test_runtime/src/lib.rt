@@ -1,4 +1,5 @@
-//! Tests of the runtime, with a driver that never waits and with real threads, over its public calls.
+//! Tests of the runtime and of channels between runtimes, with a driver that never waits and with real threads, over
+//! their public calls.
 #![tactic(auto)]
 
 #[cfg(test)]
@@ -7,6 +8,8 @@ mod answers;
 mod builders;
 #[cfg(test)]
 mod cases;
+#[cfg(test)]
+mod channels;
 #[cfg(test)]
 mod crowds;
 #[cfg(test)]

@@ -1,7 +1,9 @@
-//! Tests of join words, inboxes, recorded inboxes, parkers, registries, blocking jobs, their table and pools, and of
-//! drivers, over their public calls.
+//! Tests of join words, inboxes, recorded inboxes, parkers, registries, blocking jobs, their table and pools, drivers, and
+//! channels between threads, over their public calls.
 #![tactic(auto)]
 
+#[cfg(test)]
+mod channels;
 #[cfg(test)]
 mod drivers;
 #[cfg(test)]

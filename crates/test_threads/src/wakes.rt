@@ -222,7 +222,7 @@ fn a_wake_is_listed_before_it_unparks(rt: HostRuntime) {
 
 /// Counts the unparks.
 #[derive(Drop)]
-struct CountsUnparks(Arc<AtomicU64, Global>);
+pub(crate) struct CountsUnparks(Arc<AtomicU64, Global>);
 
 impl Clone for CountsUnparks {
     fn clone(&self) -> Result<CountsUnparks, AllocError> {
@@ -237,7 +237,10 @@ impl Unpark for CountsUnparks {
 }
 
 /// Returns a handle that counts its unparks, and the count.
-fn counts_unparks<R: Abort>(rt: &R, alloc: Global) -> (CountsUnparks, Arc<AtomicU64, Global>) {
+pub(crate) fn counts_unparks<R: Abort>(
+    rt: &R,
+    alloc: Global,
+) -> (CountsUnparks, Arc<AtomicU64, Global>) {
     let count = Arc::new(alloc, AtomicU64::new(0)).expect(rt, "memory");
     let ours = Arc::try_clone(&count).expect(rt, "memory");
     (CountsUnparks(ours), count)

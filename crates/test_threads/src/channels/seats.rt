@@ -1,38 +1,22 @@
 // How many wakers a channel keeps: one for each end that waits, however often it polls.
 //
 // Each wake unparks once, so a handle that counts its unparks shows how many wakers were kept.
+use crate::wakes::{CountsUnparks, counts_unparks};
 use mono_channel::{Receiver, Sender, channel};
-use mono_inbox::{Inbox, RemoteWaker, Unpark};
+use mono_inbox::{Inbox, RemoteWaker};
 use mono_model::{Host, Poll};
-use std::alloc::{AllocError, Global};
+use std::alloc::Global;
 use std::process::Abort;
 use std::sync::Arc;
 use std::sync::atomic::{AtomicU64, Ordering};
-
-/// Counts the unparks.
-#[derive(Drop)]
-struct Counts(Arc<AtomicU64, Global>);
-
-impl Clone for Counts {
-    fn clone(&self) -> Result<Counts, AllocError> {
-        Ok(Counts(Arc::try_clone(&self.0)?))
-    }
-}
-
-impl Unpark for Counts {
-    fn unpark<R: Host>(&self, _rt: &R) {
-        self.0.fetch_add(1, Ordering::SeqCst);
-    }
-}
 
 // A waker of a task, and the count of its wakes.
 fn counted_waker<R: Host + Abort>(
     rt: &R,
     alloc: Global,
-) -> (RemoteWaker<Counts>, Arc<AtomicU64, Global>) {
-    let count = Arc::new(alloc, AtomicU64::new(0)).expect(rt, "memory");
-    let ours = Counts(Arc::try_clone(&count).expect(rt, "memory"));
-    let inbox = Inbox::new(alloc, 8, ours).expect(rt, "memory");
+) -> (RemoteWaker<CountsUnparks>, Arc<AtomicU64, Global>) {
+    let (handle, count) = counts_unparks(rt, alloc);
+    let inbox = Inbox::new(alloc, 8, handle).expect(rt, "memory");
     (inbox.waker(rt, alloc, 7).expect(rt, "memory"), count)
 }
 
@@ -42,8 +26,8 @@ const POLLS: u64 = 100;
 // Returns whether the sender waits at each of many polls.
 fn waits_to_send<R: Host>(
     rt: &R,
-    sender: &mut Sender<u64, Counts>,
-    waker: &RemoteWaker<Counts>,
+    sender: &mut Sender<u64, CountsUnparks>,
+    waker: &RemoteWaker<CountsUnparks>,
 ) -> bool {
     let mut waits = true;
     for _ in 0..POLLS {
@@ -56,8 +40,8 @@ fn waits_to_send<R: Host>(
 // Returns whether the receiver waits at each of many polls.
 fn waits_to_receive<R: Host>(
     rt: &R,
-    receiver: &mut Receiver<u64, Counts>,
-    waker: &RemoteWaker<Counts>,
+    receiver: &mut Receiver<u64, CountsUnparks>,
+    waker: &RemoteWaker<CountsUnparks>,
 ) -> bool {
     let mut waits = true;
     for _ in 0..POLLS {

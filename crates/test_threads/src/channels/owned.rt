@@ -1,6 +1,6 @@
 // Futures that own their end, and answer it with what became of the message.
-use crate::calls::a_channel;
-use crate::gaps::{Gap, nothing, polled};
+use crate::channels::calls::a_channel;
+use crate::channels::gaps::{Gap, nothing, polled};
 use mono_channel::{Receiver, Sender};
 use mono_inbox::{Inbox, NoUnpark};
 use mono_model::{Host, Poll};

@@ -2,10 +2,11 @@
 
 use mono_channel::{Receiver, Sender, channel};
 use mono_rt::{
-    Host, Instant, ListClock, NoPool, Poll, RemoteContext, RemoteWaker, TaskFuture, ThreadDriver,
-    UnparkHandle, start,
+    Host, Instant, ListClock, NoPool, Poll, RemoteContext, RemoteWaker, RunError, TaskFuture,
+    ThreadDriver, UnparkHandle, start,
 };
 use std::alloc::Global;
+use std::process::Abort;
 use std::thread;
 
 // How many numbers go to and fro.
@@ -79,21 +80,23 @@ impl<C: RemoteContext<UnparkHandle>> TaskFuture<C> for Echo {
 }
 
 // A driver that parks its thread, and whose clock always reads 0: no task sleeps.
-pub(crate) fn driver(alloc: Global) -> Option<ThreadDriver<ListClock>> {
-    let readings = vec![in alloc; Instant::ZERO].ok()?;
-    ThreadDriver::new(alloc, ListClock::new(readings)).ok()
+pub(crate) fn driver<R: Abort>(rt: &R, alloc: Global) -> ThreadDriver<ListClock> {
+    let readings = vec![in alloc; Instant::ZERO].expect(rt, "memory");
+    ThreadDriver::new(alloc, ListClock::new(readings)).expect(rt, "memory")
 }
 
 // Runs one task on a runtime of this thread.
-fn run<R: Host>(rt: &R, alloc: Global, task: Echo) -> Option<u64> {
-    let driver = driver(alloc)?;
-    start::<_, _, _, NoPool, _>(rt, alloc, driver, task, u64::MAX).ok()
+fn run<R: Host + Abort>(rt: &R, alloc: Global, task: Echo) -> Result<u64, RunError> {
+    start::<_, _, _, NoPool, _>(rt, alloc, driver(rt, alloc), task, u64::MAX)
 }
 
 // Sends numbers to and fro between two threads. Returns how many each received.
-fn to_and_fro<R: Host + Sync>(rt: &R, alloc: Global) -> Option<(u64, u64)> {
-    let (there, first) = channel(alloc, 1).ok()?;
-    let (back, second) = channel(alloc, 1).ok()?;
+fn to_and_fro<R: Host + Abort + Sync>(
+    rt: &R,
+    alloc: Global,
+) -> (Result<u64, RunError>, Result<u64, RunError>) {
+    let (there, first) = channel(alloc, 1).expect(rt, "memory");
+    let (back, second) = channel(alloc, 1).expect(rt, "memory");
     let caller = Echo {
         sender: there,
         receiver: second,
@@ -106,18 +109,14 @@ fn to_and_fro<R: Host + Sync>(rt: &R, alloc: Global) -> Option<(u64, u64)> {
         kept: None,
         received: 0,
     };
-    let (one, two) = thread::join(
+    thread::join(
         rt,
         move || run(rt, alloc, caller),
         move || run(rt, alloc, other),
-    );
-    Some((one?, two?))
+    )
 }
 
 #[test]
 fn a_number_goes_to_and_fro(rt: HostRuntime) {
-    if let Some((one, two)) = to_and_fro(&rt, rt.alloc()) {
-        assert_eq!(rt; one, COUNT / 2);
-        assert_eq!(rt; two, COUNT / 2);
-    }
+    assert_eq!(rt; to_and_fro(&rt, rt.alloc()), (Ok(COUNT / 2), Ok(COUNT / 2)));
 }

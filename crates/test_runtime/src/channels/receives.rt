@@ -3,8 +3,7 @@
 use mono_channel::{Receiver, Sender, channel};
 use mono_inbox::NoUnpark;
 use mono_rt::{
-    Context, Host, NoPool, Poll, RemoteContext, RunError, Runtime, RuntimeBuilder, StepDriver,
-    TaskFuture,
+    Host, NoPool, Poll, RemoteContext, RunError, Runtime, RuntimeBuilder, StepDriver, TaskFuture,
 };
 use std::alloc::Global;
 use std::process::Abort;
@@ -16,14 +15,6 @@ enum Party {
     Sends(Sender<u64, NoUnpark>, bool),
     /// It receives until the channel is closed, and answers the sum of the numbers; 9000 if out of memory.
     Receives(Receiver<u64, NoUnpark>, u64),
-}
-
-// Queues the running task again after its turn.
-fn again<C: Context>(cx: &mut C)
-    ensures { C.reaches cx.old cx.new }
-{
-    let me = cx.me();
-    let _ = cx.wake(me);
 }
 
 // Receives one message, or waits for one.
@@ -40,7 +31,7 @@ fn receive<C: RemoteContext<NoUnpark>, R: Host>(
         Poll::Pending => Poll::Pending,
         Poll::Ready(Ok(Some(number))) => {
             *sum = sum.saturating_add(number);
-            again(cx);
+            cx.wake_me();
             Poll::Pending
         }
         Poll::Ready(Ok(None)) => Poll::Ready(*sum),
@@ -64,7 +55,7 @@ impl<C: RemoteContext<NoUnpark>> TaskFuture<C> for Party {
                     return Poll::Ready(0);
                 }
                 *has_waited = true;
-                again(cx);
+                cx.wake_me();
                 Poll::Pending
             }
             Party::Receives(receiver, sum) => receive(rt, alloc, cx, receiver, sum),

@@ -2,7 +2,8 @@
 use mono_channel::{Receiver, Sender, TryRecvError, channel};
 use mono_inbox::NoUnpark;
 use mono_model::Host;
-use std::alloc::{AllocError, Global};
+use std::alloc::Global;
+use std::process::Abort;
 use std::thread;
 
 // Sends all, in order, and closes the sender.
@@ -21,31 +22,31 @@ fn send_all<R: Host>(rt: &R, mut sender: Sender<u64, NoUnpark>, all: &[u64]) {
 }
 
 // Receives until none is queued.
-fn receive_all<R: Host>(
+fn receive_all<R: Host + Abort>(
     rt: &R,
     alloc: Global,
     receiver: &mut Receiver<u64, NoUnpark>,
-) -> Result<Vec<u64>, AllocError> {
+) -> Vec<u64> {
     let mut got = Vec::new(alloc);
     for _ in rt.forever() {
         match receiver.try_recv(rt) {
-            Ok(number) => got.push(number)?,
+            Ok(number) => got.push(number).expect(rt, "memory"),
             Err(_) => break,
         }
     }
-    Ok(got)
+    got
 }
 
 // Sends both rows from a thread each, and then receives them.
-fn deliver<R: Host + Sync>(
+fn deliver<R: Host + Abort + Sync>(
     rt: &R,
     alloc: Global,
     first: &[u64],
     second: &[u64],
-) -> Result<Vec<u64>, AllocError> {
+) -> Vec<u64> {
     let bound = first.len().saturating_add(second.len()).saturating_add(1);
-    let (mut one, mut receiver) = channel(alloc, bound)?;
-    let two = one.try_clone(rt)?;
+    let (mut one, mut receiver) = channel(alloc, bound).expect(rt, "memory");
+    let two = one.try_clone(rt).expect(rt, "a count");
     thread::join(
         rt,
         move || send_all(rt, one, first),
@@ -77,10 +78,9 @@ fn two_rows_arrive(rt: HostRuntime) {
     let alloc = rt.alloc();
     let first = [1u64, 2, 3, 4, 5];
     let second = [101u64, 102, 103];
-    if let Ok(got) = deliver(&rt, alloc, &first, &second) {
-        assert_eq!(rt; got.len(), 8);
-        assert_eq!(rt; in_order(got.as_slice()), 8);
-    }
+    let got = deliver(&rt, alloc, &first, &second);
+    assert_eq!(rt; got.len(), 8);
+    assert_eq!(rt; in_order(got.as_slice()), 8);
 }
 
 // Sends the numbers below `count`, and closes the sender.
@@ -116,20 +116,17 @@ fn receive_numbers<R: Host>(rt: &R, mut receiver: Receiver<u64, NoUnpark>) -> (u
 }
 
 // Sends the numbers below `count` from one thread to another.
-fn cross<R: Host + Sync>(rt: &R, alloc: Global, count: u64) -> Result<(u64, u64), AllocError> {
-    let (sender, receiver) = channel(alloc, 64)?;
+fn cross<R: Host + Abort + Sync>(rt: &R, alloc: Global, count: u64) -> (u64, u64) {
+    let (sender, receiver) = channel(alloc, 64).expect(rt, "memory");
     let ((), came) = thread::join(
         rt,
         move || send_numbers(rt, sender, count),
         move || receive_numbers(rt, receiver),
     );
-    Ok(came)
+    came
 }
 
 #[test]
 fn a_hundred_thousand_numbers_cross(rt: HostRuntime) {
-    if let Ok((came, right)) = cross(&rt, rt.alloc(), 100000) {
-        assert_eq!(rt; came, 100000);
-        assert_eq!(rt; right, 100000);
-    }
+    assert_eq!(rt; cross(&rt, rt.alloc(), 100000), (100000, 100000));
 }

@@ -5,6 +5,7 @@ use mono_channel::{Closing, Receiver, SendError, Sender, channel};
 use mono_inbox::NoUnpark;
 use mono_model::Host;
 use std::alloc::Global;
+use std::process::Abort;
 use std::thread;
 
 // Sends the numbers below `count`, each once there is a place, and closes the sender. Returns how many it sent.
@@ -47,37 +48,33 @@ fn receive_numbers<R: Host>(
 }
 
 // Sends the numbers below `count` from one thread to another over a channel with this many places.
-fn cross<R: Host + Sync>(
+fn cross<R: Host + Abort + Sync>(
     rt: &R,
     alloc: Global,
     bound: usize,
     count: u64,
-) -> Option<(u64, (u64, u64))>
+) -> (u64, (u64, u64))
     requires { 0 < bound }
 {
-    let (sender, receiver) = channel(alloc, bound).ok()?;
-    Some(thread::join(
+    let (sender, receiver) = channel(alloc, bound).expect(rt, "memory");
+    thread::join(
         rt,
         move || send_numbers(rt, alloc, sender, count),
         move || receive_numbers(rt, alloc, receiver),
-    ))
+    )
 }
 
 #[test]
 fn numbers_cross_between_threads_that_park(rt: HostRuntime) {
     for bound in [1, 7] {
-        if let Some((sent, (came, right))) = cross(&rt, rt.alloc(), bound, 2000) {
-            assert_eq!(rt; sent, 2000);
-            assert_eq!(rt; came, 2000);
-            assert_eq!(rt; right, 2000);
-        }
+        assert_eq!(rt; cross(&rt, rt.alloc(), bound, 2000), (2000, (2000, 2000)));
     }
 }
 
 // One thread waits to receive, and the other drops the last sender. Returns whether the receiver found the end.
-fn drop_last_sender<R: Host + Sync + Send + Copy + Drop>(rt: &R, alloc: Global) -> Option<bool> {
-    let (mut sender, mut receiver) = channel::<u64, NoUnpark>(alloc, 1).ok()?;
-    let second = sender.try_clone(rt).ok()?;
+fn drop_last_sender<R: Host + Abort + Sync + Send + Copy + Drop>(rt: &R, alloc: Global) -> bool {
+    let (mut sender, mut receiver) = channel::<u64, NoUnpark>(alloc, 1).expect(rt, "memory");
+    let second = sender.try_clone(rt).expect(rt, "a count");
     let one = Closing::new(*rt, sender);
     let two = Closing::new(*rt, second);
     let ((), found) = thread::join(
@@ -89,22 +86,20 @@ fn drop_last_sender<R: Host + Sync + Send + Copy + Drop>(rt: &R, alloc: Global) 
         },
         move || matches!(receiver.blocking_recv(rt, alloc), Ok(None)),
     );
-    Some(found)
+    found
 }
 
 #[test]
 fn the_drop_of_the_last_sender_wakes_the_receiver(rt: HostRuntime) {
     for _ in 0..50 {
-        if let Some(found) = drop_last_sender(&rt, rt.alloc()) {
-            assert!(rt; found);
-        }
+        assert!(rt; drop_last_sender(&rt, rt.alloc()));
     }
 }
 
 // One thread waits to send a second message, and the other drops the receiver. Returns whether the message came back.
-fn drop_receiver<R: Host + Sync + Send + Copy + Drop>(rt: &R, alloc: Global) -> Option<bool> {
-    let (mut sender, receiver) = channel::<u64, NoUnpark>(alloc, 1).ok()?;
-    sender.try_send(rt, 10).ok()?;
+fn drop_receiver<R: Host + Abort + Sync + Send + Copy + Drop>(rt: &R, alloc: Global) -> bool {
+    let (mut sender, receiver) = channel::<u64, NoUnpark>(alloc, 1).expect(rt, "memory");
+    assert!(rt; sender.try_send(rt, 10).is_ok());
     let guard = Closing::new(*rt, receiver);
     let ((), back) = thread::join(
         rt,
@@ -117,14 +112,12 @@ fn drop_receiver<R: Host + Sync + Send + Copy + Drop>(rt: &R, alloc: Global) -> 
             Err(SendError::Closed(11))
         ),
     );
-    Some(back)
+    back
 }
 
 #[test]
 fn the_drop_of_the_receiver_wakes_a_sender(rt: HostRuntime) {
     for _ in 0..50 {
-        if let Some(back) = drop_receiver(&rt, rt.alloc()) {
-            assert!(rt; back);
-        }
+        assert!(rt; drop_receiver(&rt, rt.alloc()));
     }
 }

@@ -7,7 +7,7 @@ ghost use Rattle.std.specs.Prelude.{◌≡◌, true, false, refl};
 ghost use Rattle.std.proofs.Common.{◌∙◌};
 ghost use Rattle.mono_model.specs.Tasks.{no_tasks};
 
-use crate::calls::a_channel;
+use crate::channels::calls::a_channel;
 use mono_blocking::RemoteContext;
 use mono_channel::{Receiver, SendError, Sender};
 use mono_inbox::{Inbox, NoUnpark, RemoteWaker};

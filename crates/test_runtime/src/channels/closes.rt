@@ -1,9 +1,12 @@
 // Senders on two threads that wait when the receiver closes the channel.
 
-use crate::lanes::driver;
+use crate::channels::lanes::driver;
 use mono_channel::{Receiver, Sender, channel};
-use mono_rt::{Host, NoPool, Poll, RemoteContext, RemoteWaker, TaskFuture, UnparkHandle, start};
+use mono_rt::{
+    Host, NoPool, Poll, RemoteContext, RemoteWaker, RunError, TaskFuture, UnparkHandle, start,
+};
 use std::alloc::Global;
+use std::process::Abort;
 use std::sync::Arc;
 use std::sync::atomic::{AtomicU64, Ordering};
 use std::thread;
@@ -53,22 +56,19 @@ impl<C: RemoteContext<UnparkHandle>> TaskFuture<C> for Holder {
 }
 
 // Runs a sender on a runtime of this thread. It is counted as waiting if it ended before it waited.
-fn run<R: Host>(
+fn run<R: Host + Abort>(
     rt: &R,
     alloc: Global,
     sender: Sender<u64, UnparkHandle>,
     waiting: Arc<AtomicU64, Global>,
-) -> Option<u64> {
-    let count = Arc::try_clone(&waiting).ok()?;
+) -> Result<u64, RunError> {
+    let count = Arc::try_clone(&waiting).expect(rt, "memory");
     let holder = Holder {
         sender,
         waiting,
         sent: 0,
     };
-    let sent = match driver(alloc) {
-        Some(driver) => start::<_, _, _, NoPool, _>(rt, alloc, driver, holder, u64::MAX).ok(),
-        None => None,
-    };
+    let sent = start::<_, _, _, NoPool, _>(rt, alloc, driver(rt, alloc), holder, u64::MAX);
     count.fetch_add(1, Ordering::SeqCst);
     sent
 }
@@ -98,12 +98,12 @@ fn close<R: Host>(rt: &R, mut receiver: Receiver<u64, UnparkHandle>, waiting: &A
 
 // Two senders fill a channel of four places and wait, and then its receiver closes it. Returns how many messages both
 // sent, and how many came.
-fn fill_and_close<R: Host + Sync>(rt: &R, alloc: Global) -> Option<(u64, u64)> {
-    let (mut first, receiver) = channel(alloc, 4).ok()?;
-    let second = first.try_clone(rt).ok()?;
-    let waiting = Arc::new(alloc, AtomicU64::new(0)).ok()?;
-    let one = Arc::try_clone(&waiting).ok()?;
-    let two = Arc::try_clone(&waiting).ok()?;
+fn fill_and_close<R: Host + Abort + Sync>(rt: &R, alloc: Global) -> (u64, u64) {
+    let (mut first, receiver) = channel(alloc, 4).expect(rt, "memory");
+    let second = first.try_clone(rt).expect(rt, "a count");
+    let waiting = Arc::new(alloc, AtomicU64::new(0)).expect(rt, "memory");
+    let one = Arc::try_clone(&waiting).expect(rt, "memory");
+    let two = Arc::try_clone(&waiting).expect(rt, "memory");
     let (queued, (left, right)) = thread::join(
         rt,
         move || close(rt, receiver, &waiting),
@@ -115,13 +115,10 @@ fn fill_and_close<R: Host + Sync>(rt: &R, alloc: Global) -> Option<(u64, u64)> {
             )
         },
     );
-    Some((left?.saturating_add(right?), queued))
+    (left.unwrap_or(0).saturating_add(right.unwrap_or(0)), queued)
 }
 
 #[test]
 fn a_close_ends_the_senders_that_wait(rt: HostRuntime) {
-    if let Some((sent, queued)) = fill_and_close(&rt, rt.alloc()) {
-        assert_eq!(rt; sent, 4);
-        assert_eq!(rt; queued, 4);
-    }
+    assert_eq!(rt; fill_and_close(&rt, rt.alloc()), (4, 4));
 }

@@ -1,5 +1,5 @@
 // Whom each call wakes: the inbox of the waiting tasks lists them.
-use crate::calls::a_channel;
+use crate::channels::calls::a_channel;
 use mono_channel::{Receiver, SendError, Sender};
 use mono_inbox::{Inbox, NoUnpark, RemoteWaker};
 use mono_model::{Host, Poll};
