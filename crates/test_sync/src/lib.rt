@@ -1,4 +1,5 @@
-//! Tests of channels, semaphores, notices, watched values, locks, barriers, cells and broadcasts, over their public calls.
+//! Tests of channels, semaphores, notices, watched values, locks, barriers, cells and broadcasts, over their public calls:
+//! of values alone, in turns of tasks without a runtime, and on runtimes.
 #![tactic(auto)]
 
 #[cfg(test)]
@@ -23,5 +24,7 @@ mod passed_on;
 mod requests;
 #[cfg(test)]
 mod semaphores;
+#[cfg(test)]
+mod turns;
 #[cfg(test)]
 mod watches;

@@ -3,7 +3,13 @@ ghost use Rattle.std.specs.Prelude.{◌≡◌, false, refl};
 ghost use Rattle.std.proofs.Common.{◌∙◌, ap, inl};
 ghost use Rattle.mono_model.specs.Tasks.{no_tasks};
 ghost use Rattle.mono_task.specs.Owed.{Keeps};
-ghost use Rattle.test_turns.specs.Turns.{keeps_on};
+ghost use Rattle.test_sync.specs.Turns.{keeps_on};
+
+mod by_key;
+mod kinds;
+mod refused;
+mod singles;
+mod tables;
 
 use mono_model::{Host, Poll};
 use mono_task::{Context, SharedContext, SharedState, TaskError, TaskFuture, Woke};
