@@ -1,38 +1,32 @@
-// Chains by forms as main tasks, on a driver that never waits.
-
-use mono_blocking::{BlockingHandle, BlockingStrategy, Job, NoPool, Outcome};
-use mono_forms::{FutureExt, Loop, pending, race, ready, repeat, yield_now};
-use mono_inbox::NoUnpark;
-use mono_machine::Limits;
+// Chains by forms as main tasks of built runtimes, on a driver that never waits.
+use mono_forms::{FutureExt, Loop, Ready, ready, repeat};
 use mono_model::Host;
-use mono_rt::{Cx, Entry, Event, Instant, Journal, RunError, Runtime, StepDriver, run_alone};
+use mono_rt::{
+    Cx, Entry, Event, Journal, NoPool, NoUnpark, Outcome, RunError, RuntimeBuilder, StepDriver,
+    TimeDriver,
+};
 use mono_task::TaskFuture;
 use mono_time::{LateError, SleepError, sleep_for, timeout_for};
 use std::alloc::Global;
 use std::process::Abort;
 use std::time::Duration;
 
-/// A job that no test hands out.
-#[derive(Drop)]
-pub(crate) struct NoJob {
-    number: u64,
-}
+/// How a main task ends, and the turns, the parks and the milliseconds of its parks.
+pub(crate) type Ended<O> = (Result<O, RunError>, (u64, u64, u64));
 
-impl Outcome for NoJob {
-    ghost output_number = { λ job. job.number };
-
-    fn number(&self) -> u64 {
-        self.number
+/// Returns 1 for an entry of a turn, and 0 for any other.
+fn turns_of(entry: Option<&Entry>) -> u64 {
+    match entry {
+        Some(Entry::Ran(Event::Turn(_, _), _)) => 1,
+        _ => 0,
     }
 }
 
-impl Job for NoJob {
-    type Output = u64;
-
-    type Unpark = NoUnpark;
-
-    fn run(self) -> u64 {
-        self.number
+/// Returns the milliseconds of an entry of a park.
+fn park_of(entry: Option<&Entry>) -> Option<u64> {
+    match entry {
+        Some(Entry::Park(wait)) => Some(wait.unwrap_or(0)),
+        _ => None,
     }
 }
 
@@ -42,171 +36,72 @@ pub(crate) fn told_in(journal: &Journal) -> (u64, u64, u64) {
     let mut parks = 0u64;
     let mut milliseconds = 0u64;
     for place in 0..journal.len() {
-        match journal.get(place) {
-            Some(Entry::Ran(Event::Turn(_, _), _)) => turns = turns.saturating_add(1),
-            Some(Entry::Park(wait)) => {
-                parks = parks.saturating_add(1);
-                milliseconds = milliseconds.saturating_add(wait.unwrap_or(0));
-            }
-            _ => {}
+        turns = turns.saturating_add(turns_of(journal.get(place)));
+        if let Some(wait) = park_of(journal.get(place)) {
+            parks = parks.saturating_add(1);
+            milliseconds = milliseconds.saturating_add(wait);
         }
     }
     (turns, parks, milliseconds)
 }
 
-/// Runs a main task on a runtime of its own, and returns its answer and the counts of its journal.
-fn run<F, R: Host + Abort>(
-    rt: &R,
-    alloc: Global,
-    future: F,
-) -> (Result<u64, RunError>, (u64, u64, u64))
+/// Runs a main task on a built runtime.
+pub(crate) fn run<F, O, R: Host + Abort>(rt: &R, alloc: Global, future: F) -> Ended<O>
 where
-    F: TaskFuture<Cx<F, u64, NoPool<NoJob>, NoUnpark>, Output = u64> + Drop,
+    F: TaskFuture<Cx<F, O, NoPool, NoUnpark>, Output = O> + Drop,
+    O: Outcome + Drop,
     requires { (f : F) → F.can_poll f }
 {
-    let limits = Limits {
-        tasks: 1,
-        jobs: 0,
-        sleeps: 2,
-    };
-    let driver = StepDriver::new(Vec::new(alloc));
-    let pool = BlockingHandle::Empty(BlockingStrategy::Panic);
-    let (answer, journal) = run_alone(rt, alloc, driver, pool, limits, future, 1000).expect(
-        rt, "memory",
-    );
-    (answer, told_in(&journal))
-}
-
-/// Runs a main task with a task that was spawned before it, and returns its answer and the counts of its journal.
-fn run_beside<F, R: Host + Abort>(
-    rt: &R,
-    alloc: Global,
-    beside: F,
-    main: F,
-) -> (Result<u64, RunError>, (u64, u64, u64))
-where
-    F: TaskFuture<Cx<F, u64, NoPool<NoJob>, NoUnpark>, Output = u64> + Drop,
-    requires { (f : F) → F.can_poll f }
-{
-    let limits = Limits {
-        tasks: 2,
-        jobs: 0,
-        sleeps: 2,
-    };
-    let start = Instant::from_nanos(0).expect(rt, "an instant");
-    let driver = StepDriver::new(Vec::new(alloc));
-    let pool = BlockingHandle::Empty(BlockingStrategy::Panic);
-    let mut runtime = Runtime::new(alloc, driver, pool, limits, true, start, ()).expect(
-        rt, "memory",
-    );
-    let is_spawned = runtime.spawn(alloc, beside).is_ok();
-    assert!(rt; is_spawned);
-    let answer = runtime.block_on(rt, alloc, main, 1000);
+    let driver = TimeDriver::new(StepDriver::new(Vec::new(alloc)));
+    let builder: RuntimeBuilder<_, NoPool> = RuntimeBuilder::new(driver);
+    let mut runtime = builder.with_journal().build(alloc).expect(rt, "memory");
+    let answer = runtime.block_on(rt, alloc, future, 1000);
     (answer, told_in(runtime.journal()))
 }
 
-fn or_zero(answer: Result<u64, SleepError>) -> u64 {
-    answer.unwrap_or(0)
+/// Answers 1 after a sleep.
+pub(crate) fn one(_: Result<(), SleepError>) -> u64 {
+    1
 }
 
-#[test]
-fn sleeps_counts_and_sleeps(rt: HostRuntime) {
-    let milli = Duration::from_millis(1);
-    let task = sleep_for(milli)
-        .and_then(move |_: ()| sleep_for(milli).map_ok(|_: ()| 42u64))
-        .map(or_zero);
-    assert_eq!(rt; run(&rt, rt.alloc(), task), (Ok(42), (3, 2, 2)));
+/// Returns the answer of a timeout, 2 if it has elapsed, and 3 if the sleep was refused.
+fn in_time(answer: Result<u64, LateError>) -> u64 {
+    match answer {
+        Ok(value) => value,
+        Err(LateError::Elapsed(_)) => 2,
+        Err(LateError::Sleep(_)) => 3,
+    }
 }
 
-#[test]
-fn tasks_of_two_kinds_stand_in_one_table(rt: HostRuntime) {
-    let beside = sleep_for(Duration::from_millis(1))
-        .map(|_: Result<(), SleepError>| 7u64)
-        .left_future();
-    let main = sleep_for(Duration::from_millis(2))
-        .and_then(|_: ()| sleep_for(Duration::from_millis(3)))
-        .map(|_: Result<(), SleepError>| 8u64)
-        .right_future();
-    // The other task wakes at 1 ms, and the main task at 2 ms and at 5 ms.
-    assert_eq!(rt;
-        run_beside(&rt, rt.alloc(), beside, main),
-        (Ok(8), (5, 3, 5))
-    );
+/// Runs a sleep of some milliseconds under a timeout.
+fn timed<R: Host + Abort>(rt: &R, alloc: Global, takes: u64, limit: u64) -> Ended<u64> {
+    let value = sleep_for(Duration::from_millis(takes)).map(one);
+    let task = timeout_for(Duration::from_millis(limit), value).map(in_time);
+    run(rt, alloc, task)
 }
 
 #[test]
 fn a_timeout_ends_what_is_late(rt: HostRuntime) {
     let alloc = rt.alloc();
-    // (milliseconds until the answer, the limit, the answer, turns, parks and milliseconds of parks)
-    for (takes, limit, told) in [
-        (1, 3, (Ok(1), (2, 1, 1))),
-        (3, 1, (Ok(2), (2, 1, 1))),
-        (3, 3, (Ok(1), (2, 1, 3))),
-        (0, 0, (Ok(1), (1, 0, 0))),
-    ] {
-        let value = sleep_for(Duration::from_millis(takes)).map(|_: Result<(), SleepError>| 1u64);
-        let task = timeout_for(Duration::from_millis(limit), value).map(|answer: Result<
-            u64,
-            LateError,
-        >| match answer {
-            Ok(value) => value,
-            Err(LateError::Elapsed(_)) => 2,
-            Err(LateError::Sleep(_)) => 3,
-        });
-        assert_eq!(rt; run(&rt, alloc, task), told);
-    }
+    assert_eq!(rt; timed(&rt, alloc, 1, 3), (Ok(1), (2, 1, 1)));
+    assert_eq!(rt; timed(&rt, alloc, 3, 1), (Ok(2), (2, 1, 1)));
+    assert_eq!(rt; timed(&rt, alloc, 3, 3), (Ok(1), (2, 1, 3)));
+    assert_eq!(rt; timed(&rt, alloc, 0, 0), (Ok(1), (1, 0, 0)));
 }
 
-#[test]
-fn a_loop_sleeps_so_many_times(rt: HostRuntime) {
-    let task = repeat(0u64, |n: u64| {
-        sleep_for(Duration::from_millis(10)).map(move |answer: Result<(), SleepError>| {
-            if answer.is_err() || n >= 4 {
-                Loop::Break(n)
-            } else {
-                Loop::Continue(n + 1)
-            }
-        })
-    });
-    assert_eq!(rt; run(&rt, rt.alloc(), task), (Ok(4), (6, 5, 50)));
+/// Counts up to 300.
+fn up_to_300(n: u64) -> Ready<Loop<u64, u64>> {
+    ready(if n >= 300 {
+        Loop::Break(n)
+    } else {
+        Loop::Continue(n + 1)
+    })
 }
 
 #[test]
 fn a_loop_that_never_waits_gives_way(rt: HostRuntime) {
-    let task = repeat(0u64, |n: u64| {
-        ready(if n >= 300 {
-            Loop::Break(n)
-        } else {
-            Loop::Continue(n + 1)
-        })
-    });
-    assert_eq!(rt; run(&rt, rt.alloc(), task), (Ok(300), (3, 0, 0)));
-}
-
-#[test]
-fn an_error_leads_to_another_future(rt: HostRuntime) {
-    let failed: Result<u64, u64> = Err(3);
-    let task = ready(failed)
-        .or_else(|e: u64| yield_now().map(move |_: ()| -> Result<u64, u64> {
-            Ok(e.saturating_add(1))
-        }))
-        .map(|answer: Result<u64, u64>| answer.unwrap_or(0));
-    assert_eq!(rt; run(&rt, rt.alloc(), task), (Ok(4), (2, 0, 0)));
-}
-
-#[test]
-fn the_first_of_two_ends_a_race(rt: HostRuntime) {
-    let alloc = rt.alloc();
-    let short = || {
-        sleep_for(Duration::from_millis(1)).map(|answer: Result<(), SleepError>| u64::from(
-            answer.is_ok(),
-        ))
-    };
-    let task = race(short(), pending::<u64>());
-    assert_eq!(rt; run(&rt, alloc, task), (Ok(1), (2, 1, 1)));
-    let task = race(
-        sleep_for(Duration::from_secs(9)).map(|_: Result<(), SleepError>| 2u64),
-        short(),
+    assert_eq!(rt;
+        run(&rt, rt.alloc(), repeat(0u64, up_to_300)),
+        (Ok(300), (3, 0, 0))
     );
-    assert_eq!(rt; run(&rt, alloc, task), (Ok(1), (2, 1, 1)));
 }

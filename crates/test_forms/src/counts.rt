@@ -1,20 +1,21 @@
 // Futures whose closures rest on what they captured, each on a runtime of its own.
 ghost use Rattle.std.specs.Prelude.{◌≡◌, ◌+◌, ◌<◌, ◌⊎◌, IfOk};
 
+use crate::chains::{Ended, told_in};
 use mono_forms::{FutureExt, race};
 use mono_quiet::laws::quiet_futures_spawn_none;
 use mono_rt::{
-    BlockingHandle, BlockingStrategy, Host, Limits, NoPool, NoUnpark, RunError, SleepError,
-    StepDriver, run_alone, sleep_for,
+    BlockingHandle, BlockingStrategy, Host, Limits, NoPool, NoUnpark, SleepError, StepDriver,
+    run_alone, sleep_for,
 };
 use std::alloc::{AllocError, Global};
 use std::time::Duration;
 
 /// Sleeps, counts one up from a count below 1,000, and sleeps again. The closure that counts has captured the count, so
 /// not every future of its type can be polled; this one can.
-fn count_up<R: Host>(rt: &R, alloc: Global, count: u64) -> Result<Result<u64, RunError>, AllocError>
+fn count_up<R: Host>(rt: &R, alloc: Global, count: u64) -> Result<Ended<u64>, AllocError>
     requires { count < 1000 }
-    ensures { IfOk result (λ answer. IfOk answer (λ n. (n ≡ count + 1) ⊎ (n ≡ 0))) }
+    ensures { IfOk result (λ ended. IfOk ended.0 (λ n. (n ≡ count + 1) ⊎ (n ≡ 0))) }
 {
     let milli = Duration::from_millis(1);
     let task = sleep_for(milli)
@@ -34,18 +35,14 @@ fn count_up<R: Host>(rt: &R, alloc: Global, count: u64) -> Result<Result<u64, Ru
     };
     let driver = StepDriver::new(Vec::new(alloc));
     let pool: BlockingHandle<NoPool> = BlockingHandle::Empty(BlockingStrategy::Panic);
-    let (answer, _journal) = run_alone(rt, alloc, driver, pool, limits, task, 100)?;
-    Ok(answer)
+    let (answer, journal) = run_alone(rt, alloc, driver, pool, limits, task, 100)?;
+    Ok((answer, told_in(&journal)))
 }
 
 /// Races the count one up from a count below 1,000 against a longer sleep. Its closure has captured the count.
-fn count_in_a_race<R: Host>(
-    rt: &R,
-    alloc: Global,
-    count: u64,
-) -> Result<Result<u64, RunError>, AllocError>
+fn count_in_a_race<R: Host>(rt: &R, alloc: Global, count: u64) -> Result<Ended<u64>, AllocError>
     requires { count < 1000 }
-    ensures { IfOk result (λ answer. IfOk answer (λ n. (n ≡ count + 1) ⊎ (n ≡ 0))) }
+    ensures { IfOk result (λ ended. IfOk ended.0 (λ n. (n ≡ count + 1) ⊎ (n ≡ 0))) }
 {
     let counted = sleep_for(Duration::from_millis(1)).map(move |slept: Result<(), SleepError>| {
         match slept {
@@ -63,22 +60,22 @@ fn count_in_a_race<R: Host>(
     };
     let driver = StepDriver::new(Vec::new(alloc));
     let pool: BlockingHandle<NoPool> = BlockingHandle::Empty(BlockingStrategy::Panic);
-    let (answer, _journal) = run_alone(rt, alloc, driver, pool, limits, task, 100)?;
-    Ok(answer)
+    let (answer, journal) = run_alone(rt, alloc, driver, pool, limits, task, 100)?;
+    Ok((answer, told_in(&journal)))
 }
 
 #[test]
 fn a_closure_rests_on_a_captured_count(rt: HostRuntime) {
     for count in [0, 1, 999] {
-        let answer = count_up(&rt, rt.alloc(), count).expect(&rt, "memory");
-        assert_eq!(rt; answer, Ok(count + 1));
+        let ended = count_up(&rt, rt.alloc(), count).expect(&rt, "memory");
+        assert_eq!(rt; ended, (Ok(count + 1), (3, 2, 2)));
     }
 }
 
 #[test]
 fn a_closure_in_a_race_rests_on_a_captured_count(rt: HostRuntime) {
     for count in [0, 1, 999] {
-        let answer = count_in_a_race(&rt, rt.alloc(), count).expect(&rt, "memory");
-        assert_eq!(rt; answer, Ok(count + 1));
+        let ended = count_in_a_race(&rt, rt.alloc(), count).expect(&rt, "memory");
+        assert_eq!(rt; ended, (Ok(count + 1), (2, 1, 1)));
     }
 }

@@ -1,10 +1,19 @@
-//! Tests of chains by forms, over a context that logs what they do, and on a runtime.
+//! Tests of chains by forms, over a context that logs what they do and on a runtime; of blocking jobs as futures; and of
+//! futures that spawn and start jobs through any context.
 #![tactic(auto)]
 
 #[cfg(test)]
+mod answers;
+#[cfg(test)]
 mod chains;
 #[cfg(test)]
+mod contexts;
+#[cfg(test)]
 mod counts;
+#[cfg(test)]
+mod job_joins;
+#[cfg(test)]
+mod jobs;
 #[cfg(test)]
 mod joins;
 #[cfg(test)]

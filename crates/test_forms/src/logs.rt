@@ -113,7 +113,7 @@ impl<X: Copy + Drop> TaskFuture<Log> for Part<X> {
 }
 
 /// Polls a future at most `polls` times, until it answers, and gives it up. Returns its answer and the log.
-pub(crate) fn drive<A: TaskFuture<Log>, R: Host>(
+fn drive<A: TaskFuture<Log>, R: Host>(
     rt: &R,
     alloc: Global,
     future: A,

@@ -1,8 +1,8 @@
 // Joins and races of five parts, in the written order; they are made of those of four parts. Each part is once the first
 // to answer, in the second poll; the others wait for the third. In a race of unlike parts the answer has its part's side.
-use crate::logs::{Part, drive, goes, make_part};
+use crate::logs::{Part, goes, make_part};
 use mono_combine::join5;
-use mono_forms::{Either, race_either5, race5};
+use mono_forms::{Either, FutureExt, race_either5, race5};
 
 type Four = Either<Either<Either<u64, bool>, char>, u32>;
 
@@ -71,9 +71,14 @@ fn the_first_of_five_unlike_parts_answers_on_its_side(rt: HostRuntime) {
             part('d', 3, first, 4u32),
             part('e', 4, first, 5u8),
         );
-        let (got, log) = drive(&rt, rt.alloc(), form, polls);
-        assert_eq!(rt; got.map(place_of_five), place);
-        assert_eq!(rt; log.as_str(), lines);
+        goes(
+            &rt,
+            rt.alloc(),
+            form.map(place_of_five),
+            polls,
+            place,
+            lines,
+        );
     }
 }
 

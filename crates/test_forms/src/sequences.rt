@@ -2,15 +2,37 @@
 // the rules of the crate `futures`. A form polls in the written order. The next part has its first poll as soon as the
 // one before has answered. A part that has answered is dropped.
 use crate::logs::{Part, goes, make_part};
-use mono_combine::{TryJoin2, join3};
+use mono_combine::{SelectList, Start, TryJoin2, join3};
 use mono_forms::{
-    Either, FutureExt, Loop, lazy, pending, race, race_either, race_either3, race_list, race3,
-    ready, repeat, yield_now,
+    Either, FutureExt, Loop, Pending, lazy, pending, race, race_either, race_list, race3, ready,
+    repeat, yield_now,
 };
 
 /// Returns a value, which is an error from 100 on.
 fn tried(x: u64) -> Result<u64, u64> {
     if x < 100 { Ok(x) } else { Err(x) }
+}
+
+fn next(x: u64) -> u64 {
+    x.wrapping_add(1)
+}
+
+fn double(x: u64) -> u64 {
+    x.wrapping_mul(2)
+}
+
+fn is_seven(x: u64) -> bool {
+    x == 7
+}
+
+/// Returns a second part.
+fn second(x: u64) -> Part<u64> {
+    make_part('b', 1, next(x))
+}
+
+/// Returns a second part that may fail.
+fn second_tried(x: u64) -> Part<Result<u64, u64>> {
+    make_part('b', 1, tried(next(x)))
 }
 
 #[test]
@@ -22,7 +44,7 @@ fn then_polls_its_second_part_with_the_answer_of_its_first(rt: HostRuntime) {
         (2, None, "a.aAb.B"),
         (3, Some(8), "a.aAb.bB."),
     ] {
-        let task = make_part('a', 1, 7u64).then(|x: u64| make_part('b', 1, x.wrapping_add(1)));
+        let task = make_part('a', 1, 7u64).then(second);
         goes(&rt, alloc, task, polls, answer, lines);
     }
 }
@@ -38,11 +60,7 @@ fn and_then_ends_at_an_error(rt: HostRuntime) {
         (99, 3, Some(Err(100)), "a.aAb.bB."),
         (100, 3, Some(Err(100)), "a.aA."),
     ] {
-        let task = make_part('a', 1, tried(value)).and_then(|x: u64| make_part(
-            'b',
-            1,
-            tried(x.wrapping_add(1)),
-        ));
+        let task = make_part('a', 1, tried(value)).and_then(second_tried);
         goes(&rt, alloc, task, polls, answer, lines);
     }
 }
@@ -56,11 +74,7 @@ fn or_else_ends_at_a_value(rt: HostRuntime) {
         (100, 3, Some(Err(101)), "a.aAb.bB."),
         (7, 3, Some(Ok(7)), "a.aA."),
     ] {
-        let task = make_part('a', 1, tried(value)).or_else(|e: u64| make_part(
-            'b',
-            1,
-            tried(e.wrapping_add(1)),
-        ));
+        let task = make_part('a', 1, tried(value)).or_else(second_tried);
         goes(&rt, alloc, task, polls, answer, lines);
     }
 }
@@ -77,7 +91,7 @@ fn maps_change_the_answer_once_its_future_is_given_up(rt: HostRuntime) {
         goes(
             &rt,
             alloc,
-            make_part('a', 1, tried(value)).map_ok(|x: u64| x.wrapping_mul(2)),
+            make_part('a', 1, tried(value)).map_ok(double),
             polls,
             doubled,
             lines,
@@ -85,7 +99,7 @@ fn maps_change_the_answer_once_its_future_is_given_up(rt: HostRuntime) {
         goes(
             &rt,
             alloc,
-            make_part('a', 1, tried(value)).map_err(|e: u64| e.wrapping_add(1)),
+            make_part('a', 1, tried(value)).map_err(next),
             polls,
             kept,
             lines,
@@ -94,7 +108,7 @@ fn maps_change_the_answer_once_its_future_is_given_up(rt: HostRuntime) {
     goes(
         &rt,
         alloc,
-        make_part('a', 1, 7u64).map(|x: u64| x == 7),
+        make_part('a', 1, 7u64).map(is_seven),
         2,
         Some(true),
         "a.aA.",
@@ -119,6 +133,15 @@ fn either_polls_the_one_that_is_there(rt: HostRuntime) {
     }
 }
 
+/// Ends a loop at 2.
+fn up_to_2(n: u64) -> Loop<u64, u64> {
+    if n >= 2 {
+        Loop::Break(n)
+    } else {
+        Loop::Continue(n + 1)
+    }
+}
+
 #[test]
 fn a_loop_has_its_next_turn_in_the_same_poll(rt: HostRuntime) {
     let alloc = rt.alloc();
@@ -129,14 +152,19 @@ fn a_loop_has_its_next_turn_in_the_same_poll(rt: HostRuntime) {
         (1, 2, None, "a.aAa.A"),
         (1, 4, Some(2), "a.aAa.aAa.aA."),
     ] {
-        let task = repeat(0u64, move |n: u64| {
-            make_part('a', waits, n).map(|n: u64| if n >= 2 {
-                Loop::Break(n)
-            } else {
-                Loop::Continue(n + 1)
-            })
-        });
+        let task = repeat(
+            0u64,
+            move |n: u64| make_part('a', waits, n).map(|n: u64| up_to_2(n)),
+        );
         goes(&rt, alloc, task, polls, answer, lines);
+    }
+}
+
+/// Returns the answer of either side.
+fn either_side(side: Either<u64, u64>) -> u64 {
+    match side {
+        Either::Left(x) => x,
+        Either::Right(y) => y,
     }
 }
 
@@ -160,12 +188,7 @@ fn a_race_gives_both_up_in_the_written_order(rt: HostRuntime) {
         goes(
             &rt,
             alloc,
-            race_either(make_part('a', first, 7u64), make_part('b', second, 8u64)).map(
-                |side: Either<u64, u64>| match side {
-                    Either::Left(x) => x,
-                    Either::Right(y) => y,
-                },
-            ),
+            race_either(make_part('a', first, 7u64), make_part('b', second, 8u64)).map(either_side),
             polls,
             answer,
             lines,
@@ -239,6 +262,11 @@ fn the_first_of_a_list_that_answers_ends_the_race(rt: HostRuntime) {
     goes(&rt, alloc, race_list(none), 2, None, "..");
 }
 
+/// Waits forever.
+fn never(_: u64) -> Pending<u64> {
+    pending()
+}
+
 #[test]
 fn a_fused_future_waits_after_its_answer(rt: HostRuntime) {
     let alloc = rt.alloc();
@@ -253,9 +281,7 @@ fn a_fused_future_waits_after_its_answer(rt: HostRuntime) {
     goes(
         &rt,
         alloc,
-        make_part('a', 0, 7u64)
-            .fuse()
-            .then(|_: u64| pending::<u64>()),
+        make_part('a', 0, 7u64).fuse().then(never),
         3,
         None,
         "aA...",
@@ -275,11 +301,19 @@ fn a_boxed_future_polls_and_cancels_as_without_its_box(rt: HostRuntime) {
     }
 }
 
+fn seven() -> u64 {
+    7
+}
+
+fn one_part() -> Part<u64> {
+    make_part('a', 1, 7)
+}
+
 #[test]
 fn small_forms_answer_at_once_or_in_the_next_poll(rt: HostRuntime) {
     let alloc = rt.alloc();
     goes(&rt, alloc, ready(7u64), 1, Some(7), ".");
-    goes(&rt, alloc, lazy(|| 7u64), 1, Some(7), ".");
+    goes(&rt, alloc, lazy(seven), 1, Some(7), ".");
     goes(&rt, alloc, yield_now(), 2, Some(()), "!..");
     goes(
         &rt,
@@ -291,12 +325,41 @@ fn small_forms_answer_at_once_or_in_the_next_poll(rt: HostRuntime) {
         Some(7),
         "a.aA.",
     );
-    goes(
-        &rt,
-        alloc,
-        lazy(|| make_part('a', 1, 7u64)).flatten(),
-        2,
-        Some(7),
-        "a.aA.",
-    );
+    goes(&rt, alloc, lazy(one_part).flatten(), 2, Some(7), "a.aA.");
+}
+
+fn passes(_: u32, _: &u64) -> bool {
+    true
+}
+
+fn number_of(number: u32, _: u64) -> u64 {
+    number as u64
+}
+
+fn none_left() -> u64 {
+    99
+}
+
+// A branch that is picked is given up first, and the others in the written order.
+#[test]
+fn the_body_of_a_list_sees_the_number(rt: HostRuntime) {
+    let alloc = rt.alloc();
+    for (mask, polls, answer, lines) in [
+        (0u64, 2, Some(1u64), "abc.abBAC."),
+        (2, 3, Some(0), "ac.ac.aABC."),
+        (7, 1, Some(99), "ABC."),
+    ] {
+        let parts = vec![in alloc;
+            make_part('a', 2, 1u64),
+            make_part('b', 1, 2u64),
+            make_part('c', 3, 3u64),
+        ]
+        .expect(&rt, "memory");
+        let select = SelectList::new(alloc, parts, passes, mask, Start::Biased);
+        let task = select
+            .ok()
+            .expect(&rt, "memory")
+            .with_body(number_of, none_left);
+        goes(&rt, alloc, task, polls, answer, lines);
+    }
 }

@@ -1,13 +1,13 @@
-// Blocking jobs as futures: run, refused, cancelled, under a timeout and in a race; and a job with a computed value.
+// Blocking jobs as futures: run, refused, cancelled and under a timeout; and a job with a computed value.
 ghost use Rattle.std.specs.Prelude.{◌≡◌};
 ghost use Rattle.mono_blocking.specs.Pool.{Offers};
 
 use mono_blocking::{BlockingTask, Offered};
-use mono_forms::{FutureExt, race};
+use mono_forms::FutureExt;
 use mono_rt::{
     BlockingHandle, BlockingStrategy, Cx, Host, Job, JobError, LateError, Limits, NoPool, NoUnpark,
-    Outcome, RunError, SleepError, SpawnError, StepDriver, TaskFuture, ThreadPool, run_alone,
-    run_job, sleep_for, timeout_for,
+    Outcome, RunError, SpawnError, StepDriver, TaskFuture, ThreadPool, run_alone, run_job,
+    timeout_for,
 };
 use std::alloc::Global;
 use std::process::Abort;
@@ -155,10 +155,39 @@ pub(crate) fn keeping(drops: bool) -> BlockingHandle<Keeps> {
     BlockingHandle::Attached(Keeps { kept: None, drops })
 }
 
+/// Runs the job that gives 7 on this pool, and returns its output or a code.
+fn gives_seven<P: ThreadPool<Job = Gives> + Drop, R: Host + Abort>(
+    rt: &R,
+    alloc: Global,
+    pool: BlockingHandle<P>,
+    jobs: u64,
+) -> Result<u64, RunError> {
+    run(rt, alloc, pool, jobs, run_job(Gives(7)).map(code))
+}
+
 #[test]
 fn a_job_runs_at_the_first_poll(rt: HostRuntime) {
-    let task = run_job(Gives(7)).map(code);
-    assert_eq!(rt; run(&rt, rt.alloc(), on_caller(), 1, task), Ok(7));
+    assert_eq!(rt; gives_seven(&rt, rt.alloc(), on_caller(), 1), Ok(7));
+}
+
+#[test]
+fn a_refused_job_comes_back(rt: HostRuntime) {
+    let pool: BlockingHandle<NoPool<Gives>> = BlockingHandle::Empty(BlockingStrategy::Panic);
+    assert_eq!(rt; gives_seven(&rt, rt.alloc(), pool, 1), Ok(1007));
+    assert_eq!(rt; gives_seven(&rt, rt.alloc(), on_caller(), 0), Ok(2007));
+}
+
+#[test]
+fn a_dropped_job_is_cancelled(rt: HostRuntime) {
+    assert_eq!(rt; gives_seven(&rt, rt.alloc(), keeping(true), 1), Ok(4000));
+}
+
+/// Returns the square that a job computed.
+fn square(answer: Result<Squared, JobError<Squares>>) -> u64 {
+    match answer {
+        Ok(squared) => squared.square,
+        Err(_) => 0,
+    }
 }
 
 #[test]
@@ -166,44 +195,12 @@ fn a_computed_value_is_in_a_record(rt: HostRuntime) {
     let pool: BlockingHandle<NoPool<Squares>> = BlockingHandle::Empty(
         BlockingStrategy::ExecuteLocal,
     );
-    let task = run_job(Squares(7)).map(|answer: Result<Squared, JobError<Squares>>| match answer {
-        Ok(squared) => squared.square,
-        Err(_) => 0,
-    });
+    let task = run_job(Squares(7)).map(square);
     assert_eq!(rt; run(&rt, rt.alloc(), pool, 1, task), Ok(49));
 }
 
 #[test]
-fn a_refused_job_comes_back(rt: HostRuntime) {
-    let alloc = rt.alloc();
-    let pool: BlockingHandle<NoPool<Gives>> = BlockingHandle::Empty(BlockingStrategy::Panic);
-    assert_eq!(rt;
-        run(&rt, alloc, pool, 1, run_job(Gives(7)).map(code)),
-        Ok(1007)
-    );
-    assert_eq!(rt;
-        run(&rt, alloc, on_caller(), 0, run_job(Gives(7)).map(code)),
-        Ok(2007)
-    );
-}
-
-#[test]
-fn a_dropped_job_is_cancelled(rt: HostRuntime) {
-    let task = run_job(Gives(7)).map(code);
-    assert_eq!(rt; run(&rt, rt.alloc(), keeping(true), 1, task), Ok(4000));
-}
-
-#[test]
 fn a_late_job_is_given_up(rt: HostRuntime) {
-    let milli = Duration::from_millis(10);
-    let task = timeout_for(milli, run_job(Gives(7))).map(late_code);
+    let task = timeout_for(Duration::from_millis(10), run_job(Gives(7))).map(late_code);
     assert_eq!(rt; run(&rt, rt.alloc(), keeping(false), 1, task), Ok(6000));
-}
-
-#[test]
-fn a_job_loses_a_race_that_it_does_not_end(rt: HostRuntime) {
-    let milli = Duration::from_millis(10);
-    let job = run_job(Gives(7)).map(code);
-    let task = race(job, sleep_for(milli).map(|_: Result<(), SleepError>| 9u64));
-    assert_eq!(rt; run(&rt, rt.alloc(), keeping(false), 1, task), Ok(9));
 }

@@ -1,8 +1,12 @@
 // Two jobs' handles in a join.
 use crate::jobs::{Gives, keeping, on_caller, run};
 use mono_combine::Join2;
-use mono_rt::{Host, JobContext, JobHandle, JoinError, Poll, PollJob, TaskFuture};
+use mono_rt::{
+    BlockingHandle, Host, JobContext, JobHandle, JoinError, Poll, PollJob, RunError, TaskFuture,
+    ThreadPool,
+};
 use std::alloc::Global;
+use std::process::Abort;
 
 // Returns the output, or a code.
 fn code(answer: Result<Result<u64, JoinError>, PollJob>) -> u64 {
@@ -61,12 +65,18 @@ impl<C: JobContext<Job = Gives, JobOutput = u64>> TaskFuture<C> for JoinsTwo {
     fn cancel(self, _cx: &mut C) {}
 }
 
-#[test]
-fn two_jobs_stand_in_a_join(rt: HostRuntime) {
-    assert_eq!(rt; run(&rt, rt.alloc(), on_caller(), 2, JoinsTwo), Ok(34));
+/// Runs the join on this pool.
+fn joined<P: ThreadPool<Job = Gives> + Drop, R: Host + Abort>(
+    rt: &R,
+    alloc: Global,
+    pool: BlockingHandle<P>,
+) -> Result<u64, RunError> {
+    run(rt, alloc, pool, 2, JoinsTwo)
 }
 
+// A join of jobs that do not end is given up.
 #[test]
-fn a_join_of_jobs_that_do_not_end_is_given_up(rt: HostRuntime) {
-    assert_eq!(rt; run(&rt, rt.alloc(), keeping(false), 2, JoinsTwo), Ok(9001));
+fn two_jobs_stand_in_a_join(rt: HostRuntime) {
+    assert_eq!(rt; joined(&rt, rt.alloc(), on_caller()), Ok(34));
+    assert_eq!(rt; joined(&rt, rt.alloc(), keeping(false)), Ok(9001));
 }

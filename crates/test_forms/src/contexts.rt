@@ -1,14 +1,13 @@
 // Futures that are generic over their context: one spawns tasks, and one starts a job. The job's handle then stands
-// under a timeout and in a race.
-ghost use Rattle.std.specs.Option.{is_none};
+// under a timeout.
 ghost use Rattle.std.specs.Prelude.{⊤};
 
 use crate::jobs::{Gives, keeping, on_caller, run};
-use mono_forms::{Either, FutureExt, race_either};
+use mono_forms::FutureExt;
 use mono_rt::{
     BlockingHandle, BlockingStrategy, Host, JobContext, JobHandle, JoinError, JoinHandle,
-    LateError, Limits, NoJob, NoPool, Outcome, Poll, PollJob, RunError, SleepError, SleepFor,
-    SpawnContext, StepDriver, TaskFuture, TimeContext, run_alone, sleep_for, timeout_for,
+    LateError, Limits, NoJob, NoPool, Outcome, Poll, PollJob, RunError, SleepFor, SpawnContext,
+    StepDriver, TaskFuture, ThreadPool, TimeContext, TimeoutFor, run_alone, sleep_for, timeout_for,
 };
 use std::alloc::Global;
 use std::process::Abort;
@@ -39,8 +38,7 @@ impl Sums {
         };
         self.left -= 1;
         self.handle = Some(handle);
-        let me = cx.me();
-        let _ = cx.wake(me);
+        cx.wake_me();
         Poll::Pending
     }
 }
@@ -151,7 +149,7 @@ fn a_task_spawns_others_one_after_the_other(rt: HostRuntime) {
     assert_eq!(rt; sum(&rt, rt.alloc(), 3, 1), Ok(99));
 }
 
-/// Starts a job at its first poll, and answers its handle; 9000 if the job was refused.
+/// Starts a job at its first poll, and answers its handle. It never answers if the job was refused.
 #[derive(Drop)]
 pub(crate) struct Begins<J> {
     job: Option<J>,
@@ -160,21 +158,19 @@ pub(crate) struct Begins<J> {
 impl<J> FutureExt for Begins<J> {}
 
 impl<J: Outcome + Drop, C: JobContext<Job = J>> TaskFuture<C> for Begins<J> {
-    type Output = Result<JobHandle, u64>;
-
-    ghost is_spent = { λ f. is_none f.job };
+    type Output = JobHandle;
 
     fn spent(&self) -> bool {
-        self.job.is_none()
+        false
     }
 
-    fn poll<R: Host>(&mut self, rt: &R, alloc: Global, cx: &mut C) -> Poll<Result<JobHandle, u64>> {
+    fn poll<R: Host>(&mut self, rt: &R, alloc: Global, cx: &mut C) -> Poll<JobHandle> {
         let Some(job) = self.job.take() else {
-            unreachable!()
+            return Poll::Pending;
         };
         match cx.spawn_blocking(rt, alloc, job) {
-            Ok(handle) => Poll::Ready(Ok(handle)),
-            Err(_) => Poll::Ready(Err(9000)),
+            Ok(handle) => Poll::Ready(handle),
+            Err(_) => Poll::Pending,
         }
     }
 
@@ -193,83 +189,40 @@ type Answer = Result<Result<u64, JoinError>, PollJob>;
 
 type Late = Result<Answer, LateError>;
 
-type First = Either<Answer, Result<(), SleepError>>;
-
 /// Returns the output, or a code.
-fn code(answer: Answer) -> Result<u64, u64> {
+fn code(answer: Answer) -> u64 {
     match answer {
-        Ok(Ok(output)) => Ok(output),
-        Ok(Err(_)) => Err(4000),
-        Err(_) => Err(5000),
+        Ok(Ok(output)) => output,
+        Ok(Err(_)) => 4000,
+        Err(_) => 5000,
     }
 }
 
 /// Returns the output, or a code.
-fn late_code(answer: Late) -> Result<u64, u64> {
+fn late_code(answer: Late) -> u64 {
     match answer {
         Ok(answer) => code(answer),
-        Err(_) => Err(6000),
+        Err(_) => 6000,
     }
 }
 
-/// Returns the output, or a code.
-fn first_code(answer: First) -> Result<u64, u64> {
-    match answer {
-        Either::Left(answer) => code(answer),
-        Either::Right(_) => Err(7000),
-    }
+/// Limits the wait for a job to 10 ms.
+fn limited(handle: JobHandle) -> TimeoutFor<JobHandle> {
+    timeout_for(Duration::from_millis(10), handle)
 }
 
-/// Returns the output or the code.
-pub(crate) fn either(answer: Result<u64, u64>) -> u64 {
-    match answer {
-        Ok(output) => output,
-        Err(code) => code,
-    }
-}
-
-#[test]
-fn a_jobs_handle_stands_under_a_timeout(rt: HostRuntime) {
-    let limit = Duration::from_millis(10);
-    let task = begin(7)
-        .and_then(move |handle: JobHandle| timeout_for(limit, handle).map(|answer: Late| late_code(
-            answer,
-        )))
-        .map(either);
-    assert_eq!(rt; run(&rt, rt.alloc(), on_caller(), 1, task), Ok(7));
+/// Runs a job by its handle under a timeout on this pool, and returns its output or a code.
+fn under_a_timeout<P: ThreadPool<Job = Gives> + Drop, R: Host + Abort>(
+    rt: &R,
+    alloc: Global,
+    pool: BlockingHandle<P>,
+) -> Result<u64, RunError> {
+    run(rt, alloc, pool, 1, begin(7).then(limited).map(late_code))
 }
 
 #[test]
 fn a_timeout_ends_a_jobs_handle_that_is_late(rt: HostRuntime) {
-    for (drops, answer) in [(false, 6000), (true, 4000)] {
-        let limit = Duration::from_millis(10);
-        let task = begin(7)
-            .and_then(move |handle: JobHandle| timeout_for(limit, handle).map(
-                |answer: Late| late_code(answer),
-            ))
-            .map(either);
-        assert_eq!(rt; run(&rt, rt.alloc(), keeping(drops), 1, task), Ok(answer));
-    }
-}
-
-#[test]
-fn a_jobs_handle_wins_a_race_that_it_ends(rt: HostRuntime) {
-    let limit = Duration::from_millis(10);
-    let task = begin(7)
-        .and_then(move |handle: JobHandle| race_either(handle, sleep_for(limit)).map(
-            |answer: First| first_code(answer),
-        ))
-        .map(either);
-    assert_eq!(rt; run(&rt, rt.alloc(), on_caller(), 1, task), Ok(7));
-}
-
-#[test]
-fn a_jobs_handle_loses_a_race_that_it_does_not_end(rt: HostRuntime) {
-    let limit = Duration::from_millis(10);
-    let task = begin(7)
-        .and_then(move |handle: JobHandle| race_either(handle, sleep_for(limit)).map(
-            |answer: First| first_code(answer),
-        ))
-        .map(either);
-    assert_eq!(rt; run(&rt, rt.alloc(), keeping(false), 1, task), Ok(7000));
+    assert_eq!(rt; under_a_timeout(&rt, rt.alloc(), on_caller()), Ok(7));
+    assert_eq!(rt; under_a_timeout(&rt, rt.alloc(), keeping(false)), Ok(6000));
+    assert_eq!(rt; under_a_timeout(&rt, rt.alloc(), keeping(true)), Ok(4000));
 }

@@ -1,13 +1,13 @@
-// Closures that rest on what the handles of tasks and jobs may answer.
+// Functions that rest on what the handles of tasks and jobs may answer.
 ghost use Rattle.mono_blocking.specs.Handles.{OfHandle};
 ghost use Rattle.mono_task.specs.Joins.{IsOfHandle};
 
-use crate::contexts::{begin, either};
+use crate::contexts::begin;
 use crate::jobs::{Gives, keeping, on_caller, run};
 use mono_forms::FutureExt;
 use mono_rt::{
-    BlockingHandle, Host, JobHandle, JoinContext, JoinError, JoinHandle, Poll, PollJob, Refusal,
-    RunError, TaskError, TaskFuture, ThreadPool,
+    BlockingHandle, Host, JoinContext, JoinError, JoinHandle, Poll, PollJob, Refusal, RunError,
+    TaskError, TaskFuture, ThreadPool,
 };
 use std::alloc::Global;
 use std::process::Abort;
@@ -54,11 +54,7 @@ impl<C: JoinContext<u64>> TaskFuture<C> for Asks {
 
     fn poll<R: Host>(&mut self, rt: &R, alloc: Global, cx: &mut C) -> Poll<u64> {
         let handle: JoinHandle<u64> = JoinHandle::of_task(self.0);
-        let mut task = handle.map(
-            |answer: Result<u64, TaskError>| -> u64
-                requires { IsOfHandle answer }
-            { task_code(answer) },
-        );
+        let mut task = handle.map(task_code);
         match task.poll(rt, alloc, cx) {
             Poll::Ready(code) => Poll::Ready(code),
             Poll::Pending => Poll::Ready(9000),
@@ -68,14 +64,15 @@ impl<C: JoinContext<u64>> TaskFuture<C> for Asks {
     fn cancel(self, _cx: &mut C) {}
 }
 
-#[test]
-fn a_handle_of_no_task_is_refused(rt: HostRuntime) {
-    assert_eq!(rt; run(&rt, rt.alloc(), on_caller(), 0, Asks(7)), Ok(1001));
+/// Asks for the output of the task of this number in a main task of the number 0, and returns the code.
+fn asked<R: Host + Abort>(rt: &R, alloc: Global, task: u64) -> Result<u64, RunError> {
+    run(rt, alloc, on_caller(), 0, Asks(task))
 }
 
 #[test]
-fn a_handle_of_the_main_task_is_pending(rt: HostRuntime) {
-    assert_eq!(rt; run(&rt, rt.alloc(), on_caller(), 0, Asks(0)), Ok(9000));
+fn a_handle_is_refused_or_pending(rt: HostRuntime) {
+    assert_eq!(rt; asked(&rt, rt.alloc(), 7), Ok(1001));
+    assert_eq!(rt; asked(&rt, rt.alloc(), 0), Ok(9000));
 }
 
 /// Runs a job by its handle on this pool, and returns its output or a code.
@@ -84,14 +81,7 @@ fn run_by_handle<P: ThreadPool<Job = Gives> + Drop, R: Host + Abort>(
     alloc: Global,
     pool: BlockingHandle<P>,
 ) -> Result<u64, RunError> {
-    let task = begin(9)
-        .and_then(|handle: JobHandle| handle.map(
-            |answer: Result<Result<u64, JoinError>, PollJob>| -> Result<u64, u64>
-                requires { OfHandle answer }
-            { Ok(job_code(answer)) },
-        ))
-        .map(either);
-    run(rt, alloc, pool, 1, task)
+    run(rt, alloc, pool, 1, begin(9).flatten().map(job_code))
 }
 
 #[test]
