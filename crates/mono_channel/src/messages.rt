@@ -45,7 +45,7 @@ impl<T: Drop, U: Unpark> Receiver<T, U> {
     /// Returns a future that receives the next message, on the receiver itself (`receiver`, `same_reference`).
     ///
     /// ```rust
-    /// // test_channel/src/futures.rt
+    /// // test_threads/src/channels/futures.rt
     /// receiver.recv().poll(rt, alloc, cx) == Poll::Ready(Ok(Some(10)))
     /// ```
     pub fn recv(&mut self) -> Recv<'_, T, U>

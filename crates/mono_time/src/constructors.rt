@@ -57,7 +57,7 @@ fn deadline_from(now: Instant, duration: Duration) -> Option<Instant>
 /// Refused as invalid if and only if that is past the last instant too, and otherwise as [`sleep_until`] (`made`).
 ///
 /// ```rust
-/// // from use_driver/src/naps.rt: the nap answers 0 if its sleep is refused
+/// // from example_checks/src/drivers/naps.rt: the nap answers 0 if its sleep is refused
 /// let made = match self.delay.take() {
 ///     Some(delay) => Ok(delay),
 ///     None => sleep(alloc, cx, self.length),
