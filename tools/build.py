@@ -77,7 +77,7 @@ def try_stored_run(crate):
             status = layout.run_unproved(os.path.join(folder, "crates", crate))
         except subprocess.TimeoutExpired:
             sys.exit(f"{crate} had not ended after {layout.LIMIT} seconds")
-    print(crate, ("prints the stored lines, unproved", "prints other lines than the stored ones", "does not compile")[status])
+    print(crate, ("prints the stored lines, unproved", "prints other lines than the stored ones, or ends with another status", "does not compile")[status])
     return status
 
 

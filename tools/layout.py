@@ -1,5 +1,6 @@
 """Lays crates out as a repository of their own, for tools/build.py and tools/planted.py."""
 import os
+import re
 import shutil
 import subprocess
 
@@ -53,7 +54,8 @@ def stored(folder, name):
 def run_unproved(folder):
     """How the stored run of the crate in this folder ends, without proofs.
 
-    Returns 0 if it prints what is stored, 1 if it prints something else or does not end, else 2.
+    Returns 0 if it prints what is stored and ends with the stored status, 0 without one; 1 if it does something else or
+    does not end; else 2.
     """
     words = stored(folder, "args").decode().splitlines()
     run = subprocess.run(
@@ -64,8 +66,10 @@ def run_unproved(folder):
         stderr=subprocess.PIPE,
         timeout=LIMIT,
     )
-    if run.stdout == stored(folder, "stdout"):
-        return 0
+    ended = re.search(rb"^run=ended status=(\d+) ", run.stderr, re.M)
+    if ended:
+        wanted = int(stored(folder, "status") or 0)
+        return 0 if run.stdout == stored(folder, "stdout") and int(ended[1]) == wanted else 1
     if b"did not end within the time limit" in run.stderr:
         return 1
     return 2 if run.returncode == 2 else 1
