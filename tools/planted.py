@@ -1,10 +1,11 @@
 #!/usr/bin/env python3
 """Tries the mutants of each folder planted/ on a copy of the repository, outside CI.
 
-usage: tools/planted.py [--jobs N] [--built FOLDER] [--no-tests] [--list] [CRATE ..]
+usage: tools/planted.py [--jobs N] [--built FOLDER] [--no-tests] [--only NAME,..] [--untried] [--list] [CRATE ..]
 
-Each planted/*.edit has the form of a must-fail edit. The mutants of crates that are kept as text are tried, too. For
-each a row is printed: the crate, the mutant, and what refuses it. That is "clause" with the prover's words, or
+Each planted/*.edit has the form of a must-fail edit. The edits of must-fail/, which CI tries at each run, are tried
+like them if the crate has both folders. The mutants of crates that are kept as text are tried, too. For each mutant a
+row is printed: the crate, the mutant, and what refuses it. That is "clause" with the prover's words, or
 "proof's text" if a proof only misses a name that the edit took away. It is "limit" if the prover gave up at a limit of
 its own. It is "test" if the prover lets the edit through and a test of the crate or of one above it fails, or the
 stored run of a program above it, with that crate. It is "served" if none of these refuses it and its line `served:`
@@ -16,9 +17,9 @@ is tried by a check of these functions. One check takes several edits of differe
 calls one that is refused in the same check is tried again. Any other edit is tried by a check of its crate. First the
 functions are checked as they are.
 
-The libraries below the crates are taken from FOLDER/NAME.rlib, or else one run of `rt ci` proves them first. N checks run
-at a time (2), each when memory is free. With --no-tests, what the prover lets through is
-not tested.
+The libraries below the crates are taken from FOLDER/NAME.rlib, or else one run of `rt ci` proves them first. N checks
+run at a time (2), each when memory is free. With --no-tests, what the prover lets through is not tested. With --only,
+the named mutants alone are tried, and with --untried those that --list names.
 
 The verdicts are kept in verdicts.txt beside the mutants, a line for each mutant: its name, the kind of verdict, and
 what fails. With --list the kept verdicts are counted, and a mutant without one, or one that got through, is named.
@@ -48,6 +49,8 @@ MOST = 8
 # A statement of specs/ that is proved there, and that the prover rejects, with those that rest on it.
 REJECTED = re.compile(r"depend on `([^`]+)`, which was (?:rejected|not admitted)")
 KINDS = ("clause", "proof's text", "limit", "test", "served", "let through", "GOT THROUGH", "no verdict", "bad edit")
+# The kinds of a mutant that nothing is known to refuse.
+OPEN = (None, "let through", "GOT THROUGH", "no verdict", "bad edit")
 
 
 def crates(names):
@@ -56,6 +59,24 @@ def crates(names):
     if unknown:
         sys.exit("no mutants in: " + " ".join(unknown))
     return names or have
+
+
+def mutants_of(crate):
+    """The file of each mutant of a crate, by the mutant's name: those of planted/, and those of must-fail/."""
+    found = {}
+    for part in ("must-fail", "planted"):
+        folder = os.path.join(layout.folder_of(crate), part)
+        for file in sorted(os.listdir(folder)) if os.path.isdir(folder) else ():
+            if file.endswith(".edit"):
+                found[file.removesuffix(".edit")] = os.path.join(folder, file)
+    return dict(sorted(found.items()))
+
+
+def is_chosen(crate, name, options):
+    """Whether the options ask for a mutant."""
+    if options.only and name not in options.only.split(","):
+        return False
+    return not options.untried or kind_of(kept_verdicts(crate).get(name, "")) in OPEN
 
 
 def copy_of_the_repository(folder):
@@ -314,9 +335,9 @@ def print_row(crate, name, kind, text):
 def try_crate(rtlib, copy, crate, options):
     """Tries the crate's edits, and returns how many have each kind of verdict."""
     folder = os.path.join(copy, "crates", crate)
-    planted = os.path.join(folder, "planted")
-    names = sorted(name for name in os.listdir(planted) if name.endswith(".edit"))
-    edits = [Edit(folder, os.path.join(planted, name)) for name in names]
+    edits = [Edit(folder, path) for name, path in mutants_of(crate).items() if is_chosen(crate, name, options)]
+    if not edits:
+        return collections.Counter()
     trial = Trial(prover.Prover(rtlib, copy, crate), options.jobs)
     for edit in edits:
         if edit.bad:
@@ -356,13 +377,17 @@ def what_fails(kind, text):
 
 def keep_verdicts(crate, verdicts):
     """Writes the verdicts of a crate down, with those kept of mutants that were not tried."""
-    folder = os.path.dirname(record_of(crate))
-    there = {name[: -len(".edit")] for name in os.listdir(folder) if name.endswith(".edit")}
+    there = mutants_of(crate)
     rows = {name: said for name, said in kept_verdicts(crate).items() if name in there}
     for name, (kind, text) in verdicts.items():
         rows[name.removesuffix(".edit")] = f"{kind} {what_fails(kind, text)}".strip()
     with open(record_of(crate), "w", encoding="utf-8") as file:
         file.writelines(f"{name}: {said}\n" for name, said in sorted(rows.items()))
+
+
+def kind_of(said):
+    """The kind of a kept verdict, or None if it has none."""
+    return next((kind for kind in KINDS if said.startswith(kind)), None)
 
 
 def list_verdicts(names):
@@ -371,11 +396,10 @@ def list_verdicts(names):
     missing = 0
     for crate in names:
         rows = kept_verdicts(crate)
-        folder = os.path.dirname(record_of(crate))
-        for edit in sorted(name[: -len(".edit")] for name in os.listdir(folder) if name.endswith(".edit")):
-            kind = next((it for it in KINDS if rows.get(edit, "").startswith(it)), None)
+        for edit in mutants_of(crate):
+            kind = kind_of(rows.get(edit, ""))
             found[kind] += 1
-            if kind in (None, "GOT THROUGH", "let through", "no verdict", "bad edit"):
+            if kind in OPEN:
                 print(f"{crate:14} {edit:45} {kind or 'not tried'}")
                 missing += 1
     print(f"all: {counts(found)}, {found[None]} not tried")
@@ -391,6 +415,8 @@ def options_of(words):
     parser.add_argument("--jobs", type=int, default=2)
     parser.add_argument("--built")
     parser.add_argument("--no-tests", action="store_true")
+    parser.add_argument("--only")
+    parser.add_argument("--untried", action="store_true")
     parser.add_argument("--list", action="store_true")
     parser.add_argument("crates", nargs="*")
     return parser.parse_args(words)
