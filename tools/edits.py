@@ -15,12 +15,13 @@ class Edit:
 
     `texts` has the new text of each file by its path in the crate. `functions` has for each changed body the path of
     its function below the crate, with its file and its lines; it is None if more than bodies is changed. `served` has
-    the row of tools/server that refuses it, if a line `served:` names one.
+    the row of tools/server that refuses it, if a line `served:` names one. `soak` has the call of tools/soak/refused.py
+    that does, if a line `soak:` names one.
     """
 
     def __init__(self, folder, path):
         self.name = os.path.basename(path)
-        self.texts, self.functions, self.bad, self.served = {}, {}, None, None
+        self.texts, self.functions, self.bad, self.served, self.soak = {}, {}, None, None, None
         self.pairs = []
         with open(path, encoding="utf-8") as lines:
             self.read(folder, lines)
@@ -35,6 +36,8 @@ class Edit:
                 file = rest.strip()
             elif word == "served":
                 self.served = rest.strip()
+            elif word == "soak":
+                self.soak = rest.strip()
             elif word == "old":
                 old = rest.removeprefix(" ")
             elif word == "new" and not self.bad:

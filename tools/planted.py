@@ -9,7 +9,8 @@ row is printed: the crate, the mutant, and what refuses it. That is "clause" wit
 "proof's text" if a proof only misses a name that the edit took away. It is "limit" if the prover gave up at a limit of
 its own. It is "test" if the prover lets the edit through and a test of the crate or of one above it fails, or the
 stored run of a program above it, with that crate. It is "served" if none of these refuses it and its line `served:`
-names a row of `make server`, which is not run here. It is "no verdict" if a check or the tests of a crate do not end
+names a row of `make server`, which is not run here; likewise "soak" if its line `soak:` names a call that `make soak`
+refuses memory (tools/soak/refused.py). It is "no verdict" if a check or the tests of a crate do not end
 well, "bad edit" if it does not apply or compile, or "GOT THROUGH". Then the kinds are counted for each crate.
 
 A proof rests on the contracts of the functions that it calls, and never on their bodies. So an edit of bodies alone
@@ -48,7 +49,7 @@ LIMIT = 600
 MOST = 8
 # A statement of specs/ that is proved there, and that the prover rejects, with those that rest on it.
 REJECTED = re.compile(r"depend on `([^`]+)`, which was (?:rejected|not admitted)")
-KINDS = ("clause", "proof's text", "limit", "test", "served", "let through", "GOT THROUGH", "no verdict", "bad edit")
+KINDS = ("clause", "proof's text", "limit", "test", "served", "soak", "let through", "GOT THROUGH", "no verdict", "bad edit")
 # The kinds of a mutant that nothing is known to refuse.
 OPEN = (None, "let through", "GOT THROUGH", "no verdict", "bad edit")
 
@@ -306,6 +307,8 @@ def failing_tests(copy, crate, edit, jobs):
     write(folder, before)
     if not found and edit.served:
         return "served", f"make server, row {edit.served}"
+    if not found and edit.soak:
+        return "soak", f"make soak, call {edit.soak}"
     return found[0] if found else ("GOT THROUGH", "the prover and all tests")
 
 
@@ -370,7 +373,9 @@ def kept_verdicts(crate):
 
 
 def what_fails(kind, text):
-    """The goal that is not proved, if the prover names one, or the crate of the test that fails."""
+    """The goal that is not proved, if the prover names one, the crate of the test that fails, or the row or call."""
+    if kind in ("served", "soak"):
+        return text.rpartition(" ")[2]
     goal = re.search(r"`((?:returns|loop|invariant|[a-z_0-9]+-requires)[^`]*)`", text)
     return goal[1] if goal and kind != "test" else text.removeprefix("of ") if kind == "test" else ""
 
