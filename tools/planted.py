@@ -23,7 +23,8 @@ run at a time (2), each when memory is free. With --no-tests, what the prover le
 the named mutants alone are tried, and with --untried those that --list names.
 
 The verdicts are kept in verdicts.txt beside the mutants, a line for each mutant: its name, the kind of verdict, and
-what fails. With --list the kept verdicts are counted, and a mutant without one, or one that got through, is named.
+what fails. With --list the kept verdicts are counted, and a mutant without one, or one that got through, is named. So
+is one that only tests refuse and that the table of docs/GATE.md lacks, and one of that table without such a verdict.
 """
 import argparse
 import collections
@@ -50,6 +51,10 @@ MOST = 8
 # A statement of specs/ that is proved there, and that the prover rejects, with those that rest on it.
 REJECTED = re.compile(r"depend on `([^`]+)`, which was (?:rejected|not admitted)")
 KINDS = ("clause", "proof's text", "limit", "test", "served", "soak", "let through", "GOT THROUGH", "no verdict", "bad edit")
+# The kinds of a mutant that the prover lets through, and that something else refuses.
+TESTED = ("test", "served", "soak")
+# The page with a table of those mutants, and its heading.
+PAGE, HEADING = "docs/GATE.md", "What only tests refuse"
 # The kinds of a mutant that nothing is known to refuse.
 OPEN = (None, "let through", "GOT THROUGH", "no verdict", "bad edit")
 
@@ -395,18 +400,46 @@ def kind_of(said):
     return next((kind for kind in KINDS if said.startswith(kind)), None)
 
 
-def list_verdicts(names):
-    """Counts the kept verdicts, and names each mutant that has none or got through."""
+def named_by_the_page():
+    """How often the table of the page names each mutant. A row has its number of mutants, and their names."""
+    with open(os.path.join(TOP, PAGE), encoding="utf-8") as page:
+        _, _, text = page.read().partition(f"## {HEADING}\n")
     found = collections.Counter()
+    for row in re.findall(r"^\|.*\| (\d+): (.*) \|$", text.partition("\n## ")[0], re.M):
+        names = re.findall(r"`(\w+)`", row[1])
+        if len(names) != int(row[0]):
+            print(f"{PAGE}: {row[0]} mutants are {len(names)}: {row[1]}")
+        found.update(names)
+    return found
+
+
+def compare_with_the_page(tested):
+    """Names what the table of the page lacks of these mutants, and what it has beyond them. Returns how many."""
+    named = named_by_the_page()
+    for name in sorted((tested - named).elements()):
+        print(f"{PAGE}: only a test refuses {name}, and the table lacks it")
+    for name in sorted((named - tested).elements()):
+        print(f"{PAGE}: {name} has no such verdict")
+    return ((tested - named) + (named - tested)).total()
+
+
+def list_verdicts(names):
+    """Counts the kept verdicts, and names each mutant that has none or got through. So it does with those that only tests
+    refuse, and that the page lacks."""
+    found = collections.Counter()
+    tested = collections.Counter()
     missing = 0
     for crate in names:
         rows = kept_verdicts(crate)
         for edit in mutants_of(crate):
             kind = kind_of(rows.get(edit, ""))
             found[kind] += 1
+            tested[edit] += kind in TESTED
             if kind in OPEN:
                 print(f"{crate:14} {edit:45} {kind or 'not tried'}")
                 missing += 1
+    if set(names) == set(crates([])):
+        missing += compare_with_the_page(tested)
     print(f"all: {counts(found)}, {found[None]} not tried")
     return 1 if missing else 0
 
