@@ -18,6 +18,7 @@ With words it does these rows alone:
 - failed: a read or a write that fails; it ends with status 4 or 5
 - refused: each allocation is refused in turn. The server ends with status 0, and one request may be refused memory; or it
   ends with status 6 or 7, and what it answered is right. It does not wait for the end of its input
+- threadless: each of its threads can't be made, in turn. It ends with status 7 and without a reply, while its input is open
 
 Each other row ends with status 0, each line with one reply, by the rules of its core. No request is refused memory.
 """
@@ -37,10 +38,11 @@ from load import Load
 from run import LATE, LIMIT, SIZES, Server, check, serve
 
 TOP = pathlib.Path(__file__).resolve().parent.parent.parent
-NAMES = ["cut", "silent", "hot", "small", "hostile", "quiet", "crowd", "reader", "end", "core", "failed", "refused"]
+NAMES = ["cut", "silent", "hot", "small", "hostile", "quiet", "crowd", "reader", "end", "core", "failed", "refused", "threadless"]
 BLOCK = 65536
-# Out of memory, or without a thread.
-LACKING = (6, 7)
+# Without a thread; out of memory, or without a thread.
+THREADLESS = 7
+LACKING = (6, THREADLESS)
 
 
 def row(name, server, cores, load, cut=None, sizes=SIZES, late=None):
@@ -255,13 +257,19 @@ def failed(server):
     print("a failed read, a failed write: as documented", flush=True)
 
 
+def shim_in(folder):
+    """The C library with one call that fails, built in the folder."""
+    shim = pathlib.Path(folder) / "faulty.so"
+    subprocess.run(["cc", "-O1", "-shared", "-fPIC", "-o", shim, TOP / "tools/soak/faulty.c", "-ldl"], check=True)
+    return shim
+
+
 class Refusals:
     """Runs a server on a short load with one of its allocations refused."""
 
     def __init__(self, server, folder):
         self.server, self.folder = server, pathlib.Path(folder)
-        self.shim = self.folder / "faulty.so"
-        subprocess.run(["cc", "-O1", "-shared", "-fPIC", "-o", self.shim, TOP / "tools/soak/faulty.c", "-ldl"], check=True)
+        self.shim = shim_in(folder)
         load = Load(9, 2, 20)
         (self.folder / "lines").write_text("".join(load.line() + "\n" for _ in range(300)), "ascii")
 
@@ -316,6 +324,46 @@ def refused(server):
         if tried == 0:
             sys.exit("nothing ran out of memory while the input was open")
     print(f"{tried} times out of memory with an open input: as documented", flush=True)
+
+
+def run_without(server, shim, n):
+    """Serves an input that stays open, without thread n, or with all for 0. Returns the status, the replies, and how many
+    threads were asked for."""
+    told, tell = os.pipe()
+    settings = {**os.environ, "LD_PRELOAD": str(shim), "TELL": str(tell), "THREAD": str(n)}
+    program = subprocess.Popen([server, "2", *SIZES], env=settings, pass_fds=[tell], stdin=subprocess.PIPE, stdout=subprocess.PIPE)
+    os.close(tell)
+    limit = threading.Timer(LIMIT, program.kill)
+    limit.start()
+    try:
+        program.stdin.write(b"".join(b"spawn %d\n" % key for key in range(100)))
+        program.stdin.flush()
+    except BrokenPipeError:
+        pass
+    if n == 0:
+        program.stdin.close()
+    replies = program.stdout.read()
+    status = program.wait()
+    limit.cancel()
+    program.stdout.close()
+    with os.fdopen(told) as counts:
+        return status, replies, int((counts.read().split() or [0])[-1])
+
+
+def threadless(server):
+    """Runs the server without each of its threads in turn."""
+    with tempfile.TemporaryDirectory() as folder:
+        shim = shim_in(folder)
+        status, replies, count = run_without(server, shim, 0)
+        # a writer and two cores
+        lines = replies.count(b"\n")
+        if (status, lines, count) != (0, 100, 3):
+            sys.exit(f"with all threads: status {status}, {lines} replies, {count} threads")
+        for n in range(1, count + 1):
+            status, replies, _ = run_without(server, shim, n)
+            if (status, replies) != (THREADLESS, b""):
+                sys.exit(f"without thread {n}: status {status}, {len(replies)} bytes of replies")
+    print(f"without each of {count} threads: as documented", flush=True)
 
 
 def main():

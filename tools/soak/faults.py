@@ -61,7 +61,7 @@ class Ended:
         self.output = run.communicate(text.encode(), timeout=60)[0]
         self.status = run.returncode
         with os.fdopen(told) as counts:
-            self.allocations, self.reads, self.writes = map(int, counts.read().split())
+            self.allocations, self.reads, self.writes, _ = map(int, counts.read().split())
 
 
 def faults_of(plain):

@@ -4,17 +4,19 @@
  * READ=n     the nth read of standard input fails
  * WRITE=n    the nth write to standard output fails
  * SHORT=n    each read and each write takes at most n bytes
+ * THREAD=n   the nth thread can't be made
  *
- * How many allocations, reads and writes there were is written to descriptor TELL as the program ends.
+ * How many allocations, reads, writes and threads there were is written to descriptor TELL as the program ends.
  */
 #define _GNU_SOURCE
 #include <dlfcn.h>
 #include <errno.h>
+#include <pthread.h>
 #include <stdio.h>
 #include <stdlib.h>
 #include <unistd.h>
 
-static long allocations, reads, writes;
+static long allocations, reads, writes, threads;
 
 static long wanted(const char *name)
 {
@@ -96,12 +98,20 @@ ssize_t write(int file, const void *from, size_t size)
     return next(file, from, cut(size));
 }
 
+int pthread_create(pthread_t *thread, const pthread_attr_t *how, void *(*run)(void *), void *with)
+{
+    static int (*next)(pthread_t *, const pthread_attr_t *, void *(*)(void *), void *);
+    if (!next)
+        next = dlsym(RTLD_NEXT, "pthread_create");
+    return ++threads == wanted("THREAD") ? EAGAIN : next(thread, how, run, with);
+}
+
 __attribute__((destructor)) static void tell(void)
 {
     static int is_told;
     if (is_told++)
         return;
-    dprintf((int)wanted("TELL"), "%ld %ld %ld\n", allocations, reads, writes);
+    dprintf((int)wanted("TELL"), "%ld %ld %ld %ld\n", allocations, reads, writes, threads);
 }
 
 void _exit(int status)
