@@ -2,7 +2,7 @@
 use crate::runs::{ROOM, split};
 use mono_blocking::ThreadSpawner;
 use mono_model::Host;
-use mono_script::{Clock, MemSink, MemSource, SystemClock, program};
+use mono_script::{Clock, Instant, MemSink, MemSource, SystemClock, program};
 use std::alloc::Global;
 use std::time;
 
@@ -24,6 +24,28 @@ fn moves_on<C: Clock>(clock: &mut C) -> bool {
 fn the_clock_of_the_system_moves_on(rt: HostRuntime) {
     let mut clock = SystemClock::new(rt);
     assert!(&rt; moves_on(&mut clock));
+}
+
+/// How often a clock is read for a reading that is not near 0.
+const MORE_READINGS: u64 = 100000;
+
+// Returns the last of many readings.
+fn last_reading<C: Clock>(clock: &mut C) -> Instant {
+    let mut last = clock.now();
+    for _ in 0..MORE_READINGS {
+        last = clock.now();
+    }
+    last
+}
+
+// The clock begins after the other one and is read before it, so it reads less if both count nanoseconds.
+#[test]
+fn the_clock_of_the_system_counts_no_faster_than_another(rt: HostRuntime) {
+    let begin = time::Instant::now(&rt).expect(&rt, "a clock");
+    let mut clock = SystemClock::new(rt);
+    let last = last_reading(&mut clock);
+    let gone = begin.elapsed(&rt).expect(&rt, "a clock");
+    assert!(&rt; last.as_nanos() <= gone.as_nanos());
 }
 
 /// A main task that sleeps for 20 ms. Each park lasts so long at most, so that a clock which stands still or counts
