@@ -1,31 +1,11 @@
 // Intervals that are made at their first poll, as main tasks of built runtimes.
-use crate::chains::{NoJob, told_in};
-use mono_blocking::NoPool;
+use crate::chains::run;
 use mono_forms::{FutureExt, IntervalFor, interval_for};
-use mono_inbox::NoUnpark;
 use mono_model::{Host, Poll};
-use mono_rt::{Cx, RunError, RuntimeBuilder, StepDriver, TimeDriver};
 use mono_task::TaskFuture;
 use mono_time::{Instant, SleepError, TimeContext, sleep_for};
 use std::alloc::Global;
-use std::process::Abort;
 use std::time::Duration;
-
-/// How a main task ends, and the turns, the parks and the milliseconds of its parks.
-type Ended = (Result<u64, RunError>, (u64, u64, u64));
-
-/// Runs a main task on a built runtime.
-fn run<F, R: Host + Abort>(rt: &R, alloc: Global, future: F) -> Ended
-where
-    F: TaskFuture<Cx<F, u64, NoPool<NoJob>, NoUnpark>, Output = u64> + Drop,
-    requires { (f : F) → F.can_poll f }
-{
-    let driver = TimeDriver::new(StepDriver::new(Vec::new(alloc)));
-    let builder: RuntimeBuilder<_, NoPool<NoJob>> = RuntimeBuilder::new(driver);
-    let mut runtime = builder.with_journal().build(alloc).expect(rt, "memory");
-    let answer = runtime.block_on(rt, alloc, future, 1000);
-    (answer, told_in(runtime.journal()))
-}
 
 /// The number of ticks that came, once all have come or one is refused.
 #[derive(Drop)]
@@ -79,11 +59,21 @@ fn an_interval_begins_at_its_first_poll(rt: HostRuntime) {
     assert_eq!(rt; run(&rt, rt.alloc(), ticks), (Ok(4), (4, 3, 15)));
 }
 
+/// Makes an interval after a sleep.
+fn after_a_sleep(_: Result<(), SleepError>) -> IntervalFor {
+    interval_for(Duration::from_millis(5))
+}
+
+/// Returns 1 if a tick came.
+fn ticked(tick: Result<Instant, SleepError>) -> u64 {
+    u64::from(tick.is_ok())
+}
+
 // It needs no context before, so it can follow a sleep.
 #[test]
 fn a_tick_follows_a_sleep(rt: HostRuntime) {
     let task = sleep_for(Duration::from_millis(3))
-        .then(|_: Result<(), SleepError>| interval_for(Duration::from_millis(5)))
-        .map(|tick: Result<Instant, SleepError>| tick.is_ok() as u64);
+        .then(after_a_sleep)
+        .map(ticked);
     assert_eq!(rt; run(&rt, rt.alloc(), task), (Ok(1), (2, 1, 3)));
 }
