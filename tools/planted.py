@@ -26,7 +26,7 @@ they do not refuse stays so. With --only, the named mutants alone are tried, and
 
 The verdicts are kept in verdicts.txt beside the mutants, a line for each mutant: its name, the kind of verdict, and
 what fails. With --list the kept verdicts are counted, and a mutant without one, or one that got through, is named. So
-is one that only tests refuse and that the table of docs/GATE.md lacks, and one of that table without such a verdict.
+is one that only tests refuse and that tools/only_tests.txt lacks, and one of that file without such a verdict.
 """
 import argparse
 import collections
@@ -55,8 +55,8 @@ REJECTED = re.compile(r"depend on `([^`]+)`, which was (?:rejected|not admitted)
 KINDS = ("clause", "proof's text", "limit", "test", "served", "soak", "let through", "GOT THROUGH", "no verdict", "bad edit")
 # The kinds of a mutant that the prover lets through, and that something else refuses.
 TESTED = ("test", "served", "soak")
-# The page with a table of those mutants, and its heading.
-PAGE, HEADING = "docs/GATE.md", "What only tests refuse"
+# The page with a table of the kinds of those mutants, its heading, and the file with their names.
+PAGE, HEADING, NAMES = "docs/GATE.md", "What only tests refuse", "tools/only_tests.txt"
 # The kinds of a mutant that nothing is known to refuse.
 OPEN = (None, "let through", "GOT THROUGH", "no verdict", "bad edit")
 
@@ -415,26 +415,32 @@ def kind_of(said):
     return next((kind for kind in KINDS if said.startswith(kind)), None)
 
 
-def named_by_the_page():
-    """How often the table of the page names each mutant. A row has its number of mutants, and their names."""
+def named_by_kinds():
+    """How often the file of names has each mutant. The table of the page has to have its kinds, each with its number."""
     with open(os.path.join(TOP, PAGE), encoding="utf-8") as page:
         _, _, text = page.read().partition(f"## {HEADING}\n")
+    rows = dict(re.findall(r"^(.*?) \|.*\| (\d+)$", text.partition("\n## ")[0], re.M))
     found = collections.Counter()
-    for row in re.findall(r"^\|.*\| (\d+): (.*) \|$", text.partition("\n## ")[0], re.M):
-        names = re.findall(r"`(\w+)`", row[1])
-        if len(names) != int(row[0]):
-            print(f"{PAGE}: {row[0]} mutants are {len(names)}: {row[1]}")
-        found.update(names)
+    with open(os.path.join(TOP, NAMES), encoding="utf-8") as file:
+        for line in file:
+            kind, _, names = line.rstrip("\n").rpartition(": ")
+            if line.startswith("#"):
+                continue
+            found.update(names.split())
+            if rows.pop(kind, None) != str(len(names.split())):
+                print(f"{PAGE}: the table lacks {len(names.split())} mutants: {kind}")
+    for kind in rows:
+        print(f"{NAMES} lacks: {kind}")
     return found
 
 
 def compare_with_the_page(tested):
-    """Names what the table of the page lacks of these mutants, and what it has beyond them. Returns how many."""
-    named = named_by_the_page()
+    """Names what the file of names lacks of these mutants, and what it has beyond them. Returns how many."""
+    named = named_by_kinds()
     for name in sorted((tested - named).elements()):
-        print(f"{PAGE}: only a test refuses {name}, and the table lacks it")
+        print(f"{NAMES}: only a test refuses {name}, and it is lacking")
     for name in sorted((named - tested).elements()):
-        print(f"{PAGE}: {name} has no such verdict")
+        print(f"{NAMES}: {name} has no such verdict")
     return ((tested - named) + (named - tested)).total()
 
 
