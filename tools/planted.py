@@ -419,7 +419,7 @@ def named_by_kinds():
     """How often the file of names has each mutant. The table of the page has to have its kinds, each with its number."""
     with open(os.path.join(TOP, PAGE), encoding="utf-8") as page:
         _, _, text = page.read().partition(f"## {HEADING}\n")
-    rows = dict(re.findall(r"^(.*?) \|.*\| (\d+)$", text.partition("\n## ")[0], re.M))
+    rows = dict(re.findall(r"^\| (.*?) \|.*\| (\d+) \|$", text.partition("\n## ")[0], re.M))
     found = collections.Counter()
     with open(os.path.join(TOP, NAMES), encoding="utf-8") as file:
         for line in file:
