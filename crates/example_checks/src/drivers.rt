@@ -21,14 +21,17 @@ fn parks_in(journal: &Journal) -> (u64, u64) {
     (parks, milliseconds)
 }
 
-/// Runs a nap of some milliseconds in virtual time, on a driver that parks at most `parks` times. Returns its answer, how
-/// many parks the journal has, and for how many milliseconds they were at most. Returns None if out of memory.
+/// The answer of a nap, how many parks its journal has, and for how many milliseconds they were at most.
+pub type Napped = (Result<u64, RunError>, u64, u64);
+
+/// Runs a nap of some milliseconds in virtual time, on a driver that parks at most `parks` times. Returns None
+/// if out of memory.
 pub fn nap_and_parks<R: Host>(
     rt: &R,
     alloc: Global,
     parks: u64,
     milliseconds: u64,
-) -> Option<(Result<u64, RunError>, u64, u64)> {
+) -> Option<Napped> {
     let driver = StepDriver::new(Vec::new(alloc));
     let length = Duration::from_millis(milliseconds);
     let (answer, journal) = nap_within::<_, NoPool, _>(rt, alloc, driver, parks, length).ok()?;
