@@ -1,8 +1,7 @@
 #!/usr/bin/env python3
 """Tries the mutants of each folder planted/ on a copy of the repository, outside CI.
 
-usage: tools/planted.py [--jobs N] [--built FOLDER] [--no-tests] [--tests CRATE,..] [--only NAME,..] [--untried]
-                        [--list] [CRATE ..]
+usage: tools/planted.py [--jobs N] [--built FOLDER] [--no-tests] [--only NAME,..] [--untried] [--list] [CRATE ..]
 
 Each planted/*.edit has the form of a must-fail edit. The edits of must-fail/, which CI tries at each run, are tried
 like them if the crate has both folders. The mutants of crates that are kept as text are tried, too. For each mutant a
@@ -20,9 +19,8 @@ calls one that is refused in the same check is tried again. Any other edit is tr
 functions are checked as they are.
 
 The libraries below the crates are taken from FOLDER/NAME.rlib, or else one run of `rt ci` proves them first. N checks
-run at a time (2), each when memory is free. With --no-tests, what the prover lets through is not tested. With --tests,
-the tests of these crates alone are run, on mutants whose kept verdict is "let through" without another check; one that
-they do not refuse stays so. With --only, the named mutants alone are tried, and with --untried those that --list names.
+run at a time (2), each when memory is free. With --no-tests, what the prover lets through is not tested. With --only,
+the named mutants alone are tried, and with --untried those that --list names.
 
 The verdicts are kept in verdicts.txt beside the mutants, a line for each mutant: its name, the kind of verdict, and
 what fails. With --list the kept verdicts are counted, and a mutant without one, or one that got through, is named. So
@@ -298,7 +296,7 @@ def run_tests(copy, crate):
     ).returncode
 
 
-def failing_tests(copy, crate, edit, options):
+def failing_tests(copy, crate, edit, jobs):
     """The kind of verdict, and the nearest crate of which a test fails with the edit, or does not end."""
     folder = os.path.join(copy, "crates", crate)
     before = {path: layout.stored(folder, path) for path in edit.texts}
@@ -309,12 +307,9 @@ def failing_tests(copy, crate, edit, options):
         if not found:
             found.extend(failure_of(copy, name))
 
-    names = [name for name in above(crate) if not options.tests or name in options.tests.split(",")]
-    with ThreadPoolExecutor(options.jobs) as pool:
-        list(pool.map(tries, names))
+    with ThreadPoolExecutor(jobs) as pool:
+        list(pool.map(tries, above(crate)))
     write(folder, before)
-    if not found and options.tests:
-        return "let through", f"by the prover and the tests of {', '.join(names)}"
     if not found and edit.served:
         return "served", f"make server, row {edit.served}"
     if not found and edit.soak:
@@ -356,26 +351,16 @@ def try_crate(rtlib, copy, crate, options):
         if edit.bad:
             trial.say(edit, "bad edit", edit.bad)
     good = [edit for edit in edits if not edit.bad]
-    if options.tests:
-        take_let_through(trial, good)
-    trial.try_bodies([edit for edit in good if edit.functions is not None and edit.name not in trial.verdicts])
+    trial.try_bodies([edit for edit in good if edit.functions is not None])
     trial.try_whole([edit for edit in good if edit.functions is None and edit.name not in trial.verdicts])
     for edit in good:
         if trial.verdicts[edit.name][0] == "let through":
             if not options.no_tests:
-                trial.verdicts[edit.name] = failing_tests(copy, crate, edit, options)
+                trial.verdicts[edit.name] = failing_tests(copy, crate, edit, options.jobs)
             print_row(crate, edit.name, *trial.verdicts[edit.name])
     shutil.rmtree(trial.of.kept, ignore_errors=True)
     keep_verdicts(crate, trial.verdicts)
     return collections.Counter(kind for kind, _ in trial.verdicts.values())
-
-
-def take_let_through(trial, edits):
-    """Takes the kept verdicts of edits that the prover let through."""
-    kept = kept_verdicts(trial.crate)
-    for edit in edits:
-        if kind_of(kept.get(edit.name.removesuffix(".edit"), "")) == "let through":
-            trial.say(edit, "let through", "by the prover")
 
 
 def record_of(crate):
@@ -474,7 +459,6 @@ def options_of(words):
     parser.add_argument("--jobs", type=int, default=2)
     parser.add_argument("--built")
     parser.add_argument("--no-tests", action="store_true")
-    parser.add_argument("--tests")
     parser.add_argument("--only")
     parser.add_argument("--untried", action="store_true")
     parser.add_argument("--list", action="store_true")
