@@ -1,5 +1,5 @@
 // Chains by forms as main tasks of built runtimes, on a driver that never waits.
-use mono_forms::{FutureExt, Loop, Ready, ready, repeat};
+use mono_forms::{FutureExt, Loop, ready, repeat};
 use mono_model::Host;
 use mono_rt::{
     Cx, Entry, Event, Journal, NoPool, NoUnpark, Outcome, RunError, RuntimeBuilder, StepDriver,
@@ -89,19 +89,14 @@ fn a_timeout_ends_what_is_late(rt: HostRuntime) {
     assert_eq!(rt; timed(&rt, alloc, 0, 0), (Ok(1), (1, 0, 0)));
 }
 
-/// Counts up to 300.
-fn up_to_300(n: u64) -> Ready<Loop<u64, u64>> {
-    ready(if n >= 300 {
-        Loop::Break(n)
-    } else {
-        Loop::Continue(n + 1)
-    })
-}
-
 #[test]
 fn a_loop_that_never_waits_gives_way(rt: HostRuntime) {
-    assert_eq!(rt;
-        run(&rt, rt.alloc(), repeat(0u64, up_to_300)),
-        (Ok(300), (3, 0, 0))
-    );
+    let task = repeat(0u64, |n: u64| {
+        ready(if n >= 300 {
+            Loop::Break(n)
+        } else {
+            Loop::Continue(n + 1)
+        })
+    });
+    assert_eq!(rt; run(&rt, rt.alloc(), task), (Ok(300), (3, 0, 0)));
 }

@@ -7,7 +7,7 @@ use mono_forms::FutureExt;
 use mono_rt::{
     BlockingHandle, BlockingStrategy, Host, JobContext, JobHandle, JoinError, JoinHandle,
     LateError, Limits, NoJob, NoPool, Outcome, Poll, PollJob, RunError, SleepFor, SpawnContext,
-    StepDriver, TaskFuture, ThreadPool, TimeContext, TimeoutFor, run_alone, sleep_for, timeout_for,
+    StepDriver, TaskFuture, ThreadPool, TimeContext, run_alone, sleep_for, timeout_for,
 };
 use std::alloc::Global;
 use std::process::Abort;
@@ -206,18 +206,17 @@ fn late_code(answer: Late) -> u64 {
     }
 }
 
-/// Limits the wait for a job to 10 ms.
-fn limited(handle: JobHandle) -> TimeoutFor<JobHandle> {
-    timeout_for(Duration::from_millis(10), handle)
-}
-
-/// Runs a job by its handle under a timeout on this pool, and returns its output or a code.
+/// Runs a job by its handle under a timeout of 10 ms on this pool, and returns its output or a code.
 fn under_a_timeout<P: ThreadPool<Job = Gives> + Drop, R: Host + Abort>(
     rt: &R,
     alloc: Global,
     pool: BlockingHandle<P>,
 ) -> Result<u64, RunError> {
-    run(rt, alloc, pool, 1, begin(7).then(limited).map(late_code))
+    let limit = Duration::from_millis(10);
+    let task = begin(7).then(move |handle: JobHandle| timeout_for(limit, handle).map(
+        |answer: Late| late_code(answer),
+    ));
+    run(rt, alloc, pool, 1, task)
 }
 
 #[test]

@@ -1,5 +1,5 @@
 // Selects of three to five unlike futures as main tasks of built runtimes.
-use crate::chains::run;
+use crate::chains::{one, run};
 use mono_combine::{Out3, Out4, Out5, Start, select3, select4, select5};
 use mono_forms::{FutureExt, pending, ready};
 use mono_model::FastRand;
@@ -78,6 +78,11 @@ fn number_of_four(number: u32, _: Four) -> u64 {
     number as u64
 }
 
+/// Sleeps 5 ms for each number, so 10 for the third branch.
+fn for_its_number(number: u64) -> SleepFor {
+    millis(number.saturating_mul(5))
+}
+
 // A loser whose sleep stayed would end the second park at 5 ms.
 #[test]
 fn the_losers_of_four_leave_no_sleep(rt: HostRuntime) {
@@ -96,8 +101,9 @@ fn the_losers_of_four_leave_no_sleep(rt: HostRuntime) {
         .ok()
         .expect(&rt, "memory")
         .with_body(number_of_four, none_left)
-        .then(|number: u64| millis(10).map(move |_: Slept| number));
-    assert_eq!(rt; run(&rt, alloc, task), (Ok(2), (3, 2, 13)));
+        .then(for_its_number)
+        .map(one);
+    assert_eq!(rt; run(&rt, alloc, task), (Ok(1), (3, 2, 13)));
 }
 
 /// The outputs of five branches.
