@@ -1,19 +1,27 @@
-//! Programs of tasks that wait for services in virtual time: tokens of shared buckets, and a lock in its queue.
+//! Programs of tasks that wait for services in virtual time: a lock in its queue, and tokens of shared buckets.
 #![tactic(auto)]
 
 mod locks;
 mod takes;
 
+use locks::released_at;
 use std::io;
 use takes::shelves::Note;
 use takes::takers::word;
 
+// Prints when three tasks released the lock that they share.
+fn print_releases(rt: &impl Print, releases: Option<(u64, u64, u64)>) -> io::Result<()> {
+    match releases {
+        Some((first, second, third)) => println!(rt;
+            "released at {first}, {second} and {third} ms"
+        ),
+        None => println!(rt; "gave up"),
+    }
+}
+
 // Prints the answer of each taker, and when it came.
-fn print_takes(rt: &HostRuntime) -> io::Result<()> {
-    let Some(runtime) = takes::run_all(rt, rt.alloc()) else {
-        return println!(rt; "out of memory");
-    };
-    for note in runtime.shared().notes.iter() {
+fn print_notes(rt: &impl Print, notes: &[Note]) -> io::Result<()> {
+    for note in notes {
         let Note {
             at_ms,
             name,
@@ -24,19 +32,13 @@ fn print_takes(rt: &HostRuntime) -> io::Result<()> {
     Ok(())
 }
 
-// Prints when three tasks that hold one lock for these times released it.
-fn print_releases(rt: &HostRuntime, times: (u64, u64, u64)) -> io::Result<()> {
-    match locks::released_at(rt, rt.alloc(), times) {
-        Some((first, second, third)) => println!(rt;
-            "released at {first}, {second} and {third} ms"
-        ),
-        None => println!(rt; "gave up"),
-    }
-}
-
 fn main(rt: HostRuntime) -> io::Result<()> {
-    print_takes(&rt)?;
-    print_releases(&rt, (10, 20, 30))?;
-    print_releases(&rt, (30, 20, 10))?;
-    print_releases(&rt, (500, 400, 200))
+    let alloc = rt.alloc();
+    print_releases(&rt, released_at(&rt, alloc, (10, 20, 30)))?;
+    print_releases(&rt, released_at(&rt, alloc, (30, 20, 10)))?;
+    print_releases(&rt, released_at(&rt, alloc, (500, 400, 200)))?;
+    match takes::run_all(&rt, alloc) {
+        Some(runtime) => print_notes(&rt, runtime.shared().notes.as_slice()),
+        None => println!(rt; "out of memory"),
+    }
 }
