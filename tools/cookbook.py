@@ -3,7 +3,7 @@
 
 usage: tools/cookbook.py [--check]
 
-Each file of a crate of the page but its main.rt has to be on the page, or be named in docs/GUIDE.md. Under a heading, the files together have at most 60
+Each file of a crate of the page but its main.rt has to be on the page. Under a heading, the files together have at most 60
 lines, none writes a poll by hand, and the crate's stored run has each line of "prints `LINE`". With --check nothing is
 written, and the status is 1 if the page is not the one that the sources give.
 """
@@ -16,7 +16,6 @@ sys.dont_write_bytecode = True
 import below
 
 PAGE = os.path.join("docs", "COOKBOOK.md")
-GUIDE = os.path.join("docs", "GUIDE.md")
 BLOCK = re.compile(r"^```rust\n// (crates/\S+)\n.*?^```$", re.S | re.M)
 MOST = 60
 
@@ -51,7 +50,6 @@ def faults(page):
     shown = {file for _, _, files in sections(page) for file in files}
     crates = {os.path.join(*file.split("/")[:2]) for file in shown}
     sources = {file for crate in crates for file in glob.glob(f"{crate}/src/*.rt") if not file.endswith("/main.rt")}
-    sources -= {f"crates/{file}" for file in re.findall(r"example_\w+/src/\w+\.rt", read(GUIDE))}
     return found + [f"{file}: not on the page" for file in sorted(sources - shown)]
 
 

@@ -1,4 +1,4 @@
-use Rattle.std.proofs.Common.{◌≡◌, ◌%◌, ◌^◌, ap, sym, ◌∙◌, arith, rules}
+use Rattle.std.proofs.Common.{◌%◌, ◌^◌, ap, sym, ◌∙◌, arith, rules}
 use Rattle.std.specs.List.{sum}
 use Rattle.example_threads.specs.Channels.{IsSenderAfter, IsReceiverAfter}
 use Rattle.example_threads.proofs.EndLemmas.{all_came, all_sent}
