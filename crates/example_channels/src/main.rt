@@ -1,8 +1,10 @@
-//! The cookbook's programs of tasks that share channels.
+//! The cookbook's programs of tasks that share channels and locks.
 #![tactic(auto)]
 
+mod lock;
 mod two_tasks;
 
+use lock::transfer;
 use std::io;
 use two_tasks::two_tasks;
 
@@ -10,6 +12,11 @@ fn main(rt: HostRuntime) -> io::Result<()> {
     let alloc = rt.alloc();
     if let Some((sum, left)) = two_tasks(&rt, alloc, 2, 10) {
         println!(rt; "two_tasks: the sum is {sum}, and {left} are left")?;
+    }
+    for limit in [20, 40] {
+        if let Some((here, there)) = transfer(&rt, alloc, limit) {
+            println!(rt; "lock: {here} here and {there} there")?;
+        }
     }
     Ok(())
 }
