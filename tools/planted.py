@@ -34,6 +34,7 @@ import shutil
 import subprocess
 import sys
 import tempfile
+import threading
 from concurrent.futures import ThreadPoolExecutor
 from queue import Queue
 
@@ -120,7 +121,10 @@ def is_within(one, other):
 
 
 class Trial:
-    """Tries the edits of one crate by the prover. `verdicts` has for each edit's name its kind and a text."""
+    """Tries the edits of one crate by the prover. `verdicts` has for each edit's name its kind and a text.
+
+    A verdict is kept as soon as it is there, so that a run that is ended early loses none.
+    """
 
     def __init__(self, of, jobs):
         self.of, self.crate = of, of.crate.name
@@ -128,9 +132,12 @@ class Trial:
         self.workers = Queue()
         self.workers.put(0)
         self.jobs = jobs
+        self.keeping = threading.Lock()
 
     def say(self, edit, kind, text):
         self.verdicts[edit.name] = kind, text
+        with self.keeping:
+            keep_verdicts(self.crate, {edit.name: (kind, text)})
         if kind != "let through":
             print_row(self.crate, edit.name, kind, text)
 
