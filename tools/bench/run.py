@@ -8,6 +8,9 @@ Runs of both sides alternate. A time is processor time (user and system) of the 
 memory is the largest resident set. `quick` takes inputs of a sixteenth and two runs, but for the tables beside tokio and
 the original.
 
+At the end each figure stands beside the last committed one of docs/PERFORMANCE.md, with the word `worse` if it grew by more
+than five percent. Times that have a ratio are compared by it. `quick` compares nothing.
+
 Instructions are valgrind's; without valgrind their tables are left out. They do not depend on what else runs.
 
 The environment's ANCHORS names a program of the original's wheel and tasks, if there is one. It is not in the repository:
@@ -23,6 +26,7 @@ import tempfile
 
 sys.dont_write_bytecode = True
 import inputs
+import last
 import tokio
 
 HERE = os.path.dirname(os.path.abspath(__file__))
@@ -30,13 +34,20 @@ CAP = 16 * 1024 * 1024
 LIMITS = ["4194304"] * 3
 
 
+# The title of the table that is printed, and the cells of all rows so far by title and label.
+TITLE = [""]
+ROWS = {}
+
+
 def begin(title, text):
     """Prints the heading of a table, and what its rows are."""
+    TITLE[0] = title
     print(f"\n## {title}\n\n{text}\n")
 
 
 def row(label, *cells):
-    """Prints a row of a table."""
+    """Prints a row of a table, and keeps it."""
+    ROWS[TITLE[0], label] = cells
     print(f"    {label:32}{''.join(f'  {cell:>12}' for cell in cells)}".rstrip(), flush=True)
 
 
@@ -257,6 +268,9 @@ def main():
         counted(b)
         originals(b)
         wheel(b)
+        if not b.quick:
+            begin("Beside the last figures", "A row is a figure, the last committed one, and its change.")
+            print("\n".join(last.beside(ROWS, last.read())))
 
 
 if __name__ == "__main__":
