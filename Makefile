@@ -21,7 +21,8 @@
 #   make year        simulates a year of a lease server (EVENTS=100000000): its memory has to stay flat, and its answers
 #                    have to be those of a plain program, which rustc builds
 #   make bench       measures the programs next to plain Rust programs, which rustc builds, and prints the tables of
-#                    docs/PERFORMANCE.md; it compares the manual page docs/mono_bench.1 with --help
+#                    docs/PERFORMANCE.md, and each figure beside the last committed one, marked if it is 5 percent worse; it
+#                    compares the manual page docs/mono_bench.1 with --help
 #   make planted     tries the mutants of each folder planted/ on a copy (CRATE=name: of one crate)
 #   make server      proves and builds the lease server, compares its manual page with --help, runs it on two cores with a
 #                    generated load for ten seconds, checks each reply, and then does so under faults
