@@ -5,10 +5,10 @@ use Rattle.mono_text.specs.Lines.{lines, AreLines}
 use Rattle.mono_text.specs.Services.{Says, AnswersAll, answer_line}
 use Rattle.mono_actor.specs.Actors.{Actors, no_actors}
 use Rattle.mono_actor.specs.Answers as answer
-use Rattle.mono_actor_lines.specs.Lines.{line_text, FitsLine}
-use Rattle.mono_actor_lines.specs.Answers.{Answers}
-use Rattle.mono_actor_lines.specs.declared.words.ActorLine.{ActorLine}
-use Rattle.mono_actor_lines.specs.declared.words.ActorLine.TheVariants as asked
+use Rattle.mono_lines.specs.ActorTexts.{line_text, FitsLine}
+use Rattle.mono_lines.specs.ActorAnswers.{Answers}
+use Rattle.mono_lines.specs.declared.actor.words.ActorLine.{ActorLine}
+use Rattle.mono_lines.specs.declared.actor.words.ActorLine.TheVariants as asked
 use Rattle.mono_script.specs.declared.command.Command.TheVariants as command
 use Rattle.mono_script.specs.declared.ends.Status.TheVariants as status
 use Rattle.mono_script.specs.Command.{IsCommand}

@@ -10,12 +10,12 @@ use Rattle.mono_machine.specs.declared.events.Reply.TheVariants as reply
 use Rattle.mono_machine.specs.declared.events.Report.TheVariants as report
 use Rattle.mono_text.specs.Lines.{lines}
 use Rattle.mono_trace.specs.Verdicts.{FailsAt}
-use Rattle.mono_trace_lines.specs.Journal.{IsJournalLine, AreJournalLines, Fails, FailsAtLine}
-use Rattle.mono_trace_lines.specs.declared.checks.Cause.{Cause}
-use Rattle.mono_trace_lines.specs.declared.checks.Cause.TheVariants as cause
-use Rattle.mono_trace_lines.specs.declared.checks.Failure.{Failure}
-use Rattle.mono_trace_lines.specs.declared.journal.JournalLine.{JournalLine}
-use Rattle.mono_trace_lines.specs.declared.journal.JournalLine.TheVariants.{Ran}
+use Rattle.mono_lines.specs.Journal.{IsJournalLine, AreJournalLines, Fails, FailsAtLine}
+use Rattle.mono_lines.specs.declared.trace.checks.Cause.{Cause}
+use Rattle.mono_lines.specs.declared.trace.checks.Cause.TheVariants as cause
+use Rattle.mono_lines.specs.declared.trace.checks.Failure.{Failure}
+use Rattle.mono_lines.specs.declared.trace.journal.JournalLine.{JournalLine}
+use Rattle.mono_lines.specs.declared.trace.journal.JournalLine.TheVariants.{Ran}
 use Rattle.mono_script.specs.declared.command.Command.TheVariants as command
 use Rattle.mono_script.specs.declared.ends.Status.TheVariants as status
 use Rattle.mono_script.specs.Checks.{checking}

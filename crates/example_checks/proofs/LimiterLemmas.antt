@@ -8,7 +8,7 @@ use Rattle.mono_text.proofs.CallLemmas.{number_again}
 use Rattle.mono_limit.specs.Limiter.{Limits, no_limits}
 use Rattle.mono_limit.specs.Calls.{Call}
 use Rattle.mono_limit.specs.Calls as call
-use Rattle.mono_limit_lines.specs.Lines.{call_text, FitsCall, StepByLine, answer_text}
+use Rattle.mono_lines.specs.LimiterTexts.{call_text, FitsCall, StepByLine, answer_text}
 use Rattle.mono_script.specs.declared.command.Command.TheVariants as command
 use Rattle.mono_script.specs.declared.ends.Status.TheVariants as status
 use Rattle.mono_script.specs.Command.{IsCommand}

@@ -6,9 +6,9 @@ use Rattle.mono_text.specs.Lines.{Line, AreLines, IsEventLine}
 use Rattle.mono_text.specs.Services.{Says}
 use Rattle.mono_text.proofs.CallLemmas.{Spells}
 use Rattle.mono_text.proofs.SpellingLemmas.{one_event}
-use Rattle.mono_trace_lines.specs.Journal.{IsJournalLine}
-use Rattle.mono_trace_lines.specs.declared.journal.JournalLine.{JournalLine}
-use Rattle.mono_trace_lines.proofs.JournalLineLemmas.{one_line}
+use Rattle.mono_lines.specs.Journal.{IsJournalLine}
+use Rattle.mono_lines.specs.declared.trace.journal.JournalLine.{JournalLine}
+use Rattle.mono_lines.proofs.JournalLineLemmas.{one_line}
 
 -- the first byte of a text, or 0
 abbrev pub first_byte : List ℕ → ℕ

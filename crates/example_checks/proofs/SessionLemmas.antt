@@ -4,11 +4,11 @@ use Rattle.std.specs.Prelude.{flat_map}
 use Rattle.mono_text.specs.Lines.{lines, AreLines}
 use Rattle.mono_text.specs.Services.{Says, AnswersAll, answer_line}
 use Rattle.mono_session.specs.Keeper.{Keeper, no_sessions}
-use Rattle.mono_session_lines.specs.Lines.{call_text, FitsCall, StepsAs, answer_text}
-use Rattle.mono_session_lines.specs.Parser.{call_at}
-use Rattle.mono_session_lines.specs.declared.calls.SessionCall.{SessionCall}
-use Rattle.mono_session_lines.specs.declared.calls.SessionCall.TheVariants as call
-use Rattle.mono_session_lines.proofs.SpellingLemmas.{spells}
+use Rattle.mono_lines.specs.SessionTexts.{call_text, FitsCall, StepsAs, answer_text}
+use Rattle.mono_lines.specs.SessionParser.{call_at}
+use Rattle.mono_lines.specs.declared.session.calls.SessionCall.{SessionCall}
+use Rattle.mono_lines.specs.declared.session.calls.SessionCall.TheVariants as call
+use Rattle.mono_lines.proofs.SessionSpellingLemmas.{spells}
 use Rattle.mono_script.specs.declared.command.Command.TheVariants as command
 use Rattle.mono_script.specs.declared.ends.Status.TheVariants as status
 use Rattle.mono_script.specs.Command.{IsCommand}

@@ -13,16 +13,16 @@ use Rattle.mono_trace.specs.declared.marks.Mark.{Mark}
 use Rattle.mono_trace.specs.declared.Verdict.{Verdict}
 use Rattle.mono_trace.specs.declared.Verdict.TheVariants as verdict
 use Rattle.mono_trace.proofs.VerdictLemmas.{runs_are_passed}
-use Rattle.mono_trace_lines.specs.Journal as text
-use Rattle.mono_trace_lines.specs.Journal.{IsJournalLine, AreJournalLines, IsFirstBad, FailsInPair, FailsInOrder, FailsWhole, FailsWholeAtLine, IsWholeAnswer}
-use Rattle.mono_trace_lines.specs.declared.checks.Answer.{Answer}
-use Rattle.mono_trace_lines.specs.declared.checks.Answer.TheVariants as answer
-use Rattle.mono_trace_lines.specs.declared.checks.Cause.{Cause}
-use Rattle.mono_trace_lines.specs.declared.checks.Cause.TheVariants as cause
-use Rattle.mono_trace_lines.specs.declared.checks.Failure.{Failure}
-use Rattle.mono_trace_lines.specs.declared.journal.JournalLine.{JournalLine}
-use Rattle.mono_trace_lines.specs.declared.journal.JournalLine.TheVariants as line
-use Rattle.mono_trace_lines.proofs.JournalLineLemmas.{one_line}
+use Rattle.mono_lines.specs.Journal as text
+use Rattle.mono_lines.specs.Journal.{IsJournalLine, AreJournalLines, IsFirstBad, FailsInPair, FailsInOrder, FailsWhole, FailsWholeAtLine, IsWholeAnswer}
+use Rattle.mono_lines.specs.declared.trace.checks.Answer.{Answer}
+use Rattle.mono_lines.specs.declared.trace.checks.Answer.TheVariants as answer
+use Rattle.mono_lines.specs.declared.trace.checks.Cause.{Cause}
+use Rattle.mono_lines.specs.declared.trace.checks.Cause.TheVariants as cause
+use Rattle.mono_lines.specs.declared.trace.checks.Failure.{Failure}
+use Rattle.mono_lines.specs.declared.trace.journal.JournalLine.{JournalLine}
+use Rattle.mono_lines.specs.declared.trace.journal.JournalLine.TheVariants as line
+use Rattle.mono_lines.proofs.JournalLineLemmas.{one_line}
 use Rattle.mono_rt.specs.Journals.{events_in, reports_in}
 use Rattle.mono_rt.specs.declared.parts.errors.RunError.{RunError}
 use Rattle.mono_rt.specs.declared.parts.journals.Entry.{Entry}

@@ -4,11 +4,11 @@ use Rattle.mono_machine.specs.Machine.{Machine, start_machine}
 use Rattle.mono_machine.specs.declared.events.Limits.{Limits}
 use Rattle.mono_machine.specs.declared.events.Blocking.{Blocking}
 use Rattle.mono_text.specs.Lines.{lines}
-use Rattle.mono_trace_lines.specs.Journal.{AreJournalLines, IsWholeAnswer}
-use Rattle.mono_trace_lines.specs.declared.checks.Answer.{Answer}
-use Rattle.mono_trace_lines.specs.declared.checks.Answer.TheVariants as answer
-use Rattle.mono_trace_lines.specs.declared.journal.JournalLine.{JournalLine}
-use Rattle.mono_trace_lines.specs.declared.journal.JournalLine.TheVariants as line
+use Rattle.mono_lines.specs.Journal.{AreJournalLines, IsWholeAnswer}
+use Rattle.mono_lines.specs.declared.trace.checks.Answer.{Answer}
+use Rattle.mono_lines.specs.declared.trace.checks.Answer.TheVariants as answer
+use Rattle.mono_lines.specs.declared.trace.journal.JournalLine.{JournalLine}
+use Rattle.mono_lines.specs.declared.trace.journal.JournalLine.TheVariants as line
 use Rattle.mono_rt.specs.declared.parts.errors.RunError.{RunError}
 use Rattle.mono_rt.specs.declared.parts.journals.Entry.{Entry}
 use Rattle.mono_rt.specs.declared.parts.journals.Entry.TheVariants.{Ran, Now, Park}

@@ -4,8 +4,8 @@ use Rattle.mono_machine.specs.declared.events.Limits.{Limits}
 use Rattle.mono_machine.specs.declared.events.Blocking.{Blocking}
 use Rattle.mono_text.specs.Lines.{lines}
 use Rattle.mono_text.proofs.InputLineLemmas.{not_both_of}
-use Rattle.mono_trace_lines.specs.Journal.{IsJournalLine, AreJournalLines}
-use Rattle.mono_trace_lines.specs.declared.journal.JournalLine.{JournalLine}
+use Rattle.mono_lines.specs.Journal.{IsJournalLine, AreJournalLines}
+use Rattle.mono_lines.specs.declared.trace.journal.JournalLine.{JournalLine}
 use Rattle.mono_script.specs.declared.ends.Status.{Status}
 use Rattle.mono_script.specs.declared.ends.Status.TheVariants as status
 use Rattle.mono_script.specs.Checks.{IsChecked, IsCheckedWhole, checking, checking_whole}

@@ -14,12 +14,12 @@ use Rattle.mono_run.specs.ScriptText.{IsScript, task_lines}
 use Rattle.mono_run.proofs.BeginningLemmas.{not_out}
 use Rattle.mono_script.proofs.ServiceLemmas.{sound_serving}
 use Rattle.mono_session.specs.Keeper.{no_sessions}
-use Rattle.mono_session_lines.specs.Lines as session_line
+use Rattle.mono_lines.specs.SessionTexts as session_line
 use Rattle.mono_limit.specs.Limiter.{no_limits}
-use Rattle.mono_limit_lines.specs.Lines as limiter_line
+use Rattle.mono_lines.specs.LimiterTexts as limiter_line
 use Rattle.mono_actor.specs.Actors.{no_actors}
-use Rattle.mono_actor_lines.specs.Lines.{line_text, FitsLine}
-use Rattle.mono_actor_lines.specs.Answers.{Answers}
+use Rattle.mono_lines.specs.ActorTexts.{line_text, FitsLine}
+use Rattle.mono_lines.specs.ActorAnswers.{Answers}
 use Rattle.mono_script.proofs.CheckLemmas.{sound_checking, sound_checking_whole}
 
 -- ---- each command: the facts that it owes of its meaning

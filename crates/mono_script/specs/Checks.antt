@@ -4,9 +4,9 @@ use Rattle.std.specs.Prelude.{◌≡◌, ℕ, true, List, [], ◌∷◌, ◌++�
 use Rattle.mono_machine.specs.declared.events.Limits.{Limits}
 use Rattle.mono_machine.specs.declared.events.Blocking.{Blocking}
 use Rattle.mono_text.specs.Lines.{lines}
-use Rattle.mono_trace_lines.specs.Journal.{AreJournalLines, IsFirstBad, IsPassed, FailsAtLine, IsWhole, FailsWholeAtLine}
-use Rattle.mono_trace_lines.specs.declared.checks.Failure.{Failure}
-use Rattle.mono_trace_lines.specs.declared.journal.JournalLine.{JournalLine}
+use Rattle.mono_lines.specs.Journal.{AreJournalLines, IsFirstBad, IsPassed, FailsAtLine, IsWhole, FailsWholeAtLine}
+use Rattle.mono_lines.specs.declared.trace.checks.Failure.{Failure}
+use Rattle.mono_lines.specs.declared.trace.journal.JournalLine.{JournalLine}
 use Rattle.mono_script.specs.declared.command.Command.{Command}
 use Rattle.mono_script.specs.declared.command.Command.TheVariants as command
 use Rattle.mono_script.specs.declared.ends.Status.{Status}

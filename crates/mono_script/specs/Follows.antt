@@ -9,12 +9,12 @@ use Rattle.mono_text.specs.LineText.{event_text, FitsEvent, report_text}
 use Rattle.mono_text.specs.declared.followers.FollowEnd.{FollowEnd}
 use Rattle.mono_text.specs.declared.followers.FollowEnd.TheVariants as end
 use Rattle.mono_actor.specs.Actors.{no_actors}
-use Rattle.mono_actor_lines.specs.Lines as actor_line
-use Rattle.mono_actor_lines.specs.Answers as actor_answer
+use Rattle.mono_lines.specs.ActorTexts as actor_line
+use Rattle.mono_lines.specs.ActorAnswers as actor_answer
 use Rattle.mono_session.specs.Keeper.{no_sessions}
-use Rattle.mono_session_lines.specs.Lines as session_line
+use Rattle.mono_lines.specs.SessionTexts as session_line
 use Rattle.mono_limit.specs.Limiter.{no_limits}
-use Rattle.mono_limit_lines.specs.Lines as limiter_line
+use Rattle.mono_lines.specs.LimiterTexts as limiter_line
 use Rattle.mono_script.specs.declared.command.Command.{Command}
 use Rattle.mono_script.specs.declared.command.Command.TheVariants as command
 use Rattle.mono_script.specs.declared.ends.Status.{Status}

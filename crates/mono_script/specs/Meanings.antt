@@ -18,14 +18,14 @@ use Rattle.mono_run.specs.declared.runs.RunEnd.TheVariants as ran
 use Rattle.mono_script.specs.Endings.{Meaning}
 use Rattle.mono_text.specs.Lines.{lines, AreEventLines, IsFirstBad}
 use Rattle.mono_actor.specs.Actors.{no_actors}
-use Rattle.mono_actor_lines.specs.Lines.{line_text, FitsLine}
-use Rattle.mono_actor_lines.specs.Answers.{Answers}
+use Rattle.mono_lines.specs.ActorTexts.{line_text, FitsLine}
+use Rattle.mono_lines.specs.ActorAnswers.{Answers}
 use Rattle.mono_script.specs.Answers.{IsReplayed}
 use Rattle.mono_session.specs.Keeper.{no_sessions}
-use Rattle.mono_session_lines.specs.Lines as session_line
+use Rattle.mono_lines.specs.SessionTexts as session_line
 use Rattle.mono_script.specs.Services.{serving}
 use Rattle.mono_limit.specs.Limiter.{no_limits}
-use Rattle.mono_limit_lines.specs.Lines as limiter_line
+use Rattle.mono_lines.specs.LimiterTexts as limiter_line
 use Rattle.mono_script.specs.Checks.{checking, checking_whole}
 
 -- a replay: event lines as input, and a line for each report of a run

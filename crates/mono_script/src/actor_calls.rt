@@ -17,6 +17,6 @@ pub(crate) fn output_of_actors(
     ensures output { IfOk result (λ o. IsOutput (acting actors messages) input.now o.status o.text.items) }
     ensures line { IfOk result (λ o. IsLine (acting actors messages) input.now o.status o.bad_line) }
 {
-    let served = mono_actor_lines::actors(alloc, actors, messages, input)?;
+    let served = mono_lines::actor::actors(alloc, actors, messages, input)?;
     output_of(alloc, served)
 }

@@ -1,14 +1,14 @@
 // A check of a journal, and the line of its answer.
 ghost use Rattle.std.specs.Prelude.{◌≡◌, None, IfOk, IfSome};
-ghost use Rattle.mono_trace_lines.specs.Journal.{FailsAtLine, FailsWholeAtLine};
+ghost use Rattle.mono_lines.specs.Journal.{FailsAtLine, FailsWholeAtLine};
 ghost use Rattle.mono_script.specs.Endings.{IsOutput, IsLine};
 ghost use Rattle.mono_script.specs.Checks.{checking, checking_whole, yes_line, no_line};
 ghost use Rattle.mono_script.specs.declared.ends.Status.TheVariants as status;
 
 use crate::ends::{Output, Status, bad_line};
+use mono_lines::trace::{Answer, Failure, check_lines, check_whole};
 use mono_machine::Limits;
 use mono_replay::Blocking;
-use mono_trace_lines::{Answer, Failure, check_lines, check_whole};
 use std::alloc::{AllocError, Global};
 
 fn yes(alloc: Global) -> Result<Output, AllocError>

@@ -9,9 +9,9 @@ ghost use Rattle.mono_script.specs.Checks.{FailsFor};
 use crate::check_line::{failure_of, failure_of_whole};
 use crate::command::Command;
 use crate::line_words::fault;
+use mono_lines::trace::Failure;
 use mono_run::TaskWait;
 use mono_text::Fault;
-use mono_trace_lines::Failure;
 use std::alloc::{AllocError, Global};
 
 /// The status with which the program ends.

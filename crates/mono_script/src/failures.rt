@@ -1,8 +1,8 @@
 // Why a journal is no run, in a sentence.
 use crate::word_texts::cut;
+use mono_lines::trace::{Cause, Failure, Stage};
 use mono_machine::Report;
 use mono_text::report_line;
-use mono_trace_lines::{Cause, Failure, Stage};
 use std::alloc::{AllocError, Global};
 use std::format;
 

@@ -11,9 +11,9 @@ use crate::command::{Command, read_command};
 use crate::ends::Status;
 use crate::line_words::fault;
 use crate::replay::follow_replay;
-use mono_actor_lines::follow_actors;
-use mono_limit_lines::follow_limiter;
-use mono_session_lines::follow_sessions;
+use mono_lines::actor::follow_actors;
+use mono_lines::limit::follow_limiter;
+use mono_lines::session::follow_sessions;
 use mono_text::{Fault, FollowEnd, Followed, Sink, Source};
 use std::alloc::{AllocError, Global};
 

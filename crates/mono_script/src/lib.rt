@@ -36,11 +36,11 @@ pub use follows::{FollowedCommand, follow_command};
 pub use inputs::reads_input;
 pub use mono_blocking::{NoSpawner, Spawner, ThreadSpawner};
 pub use mono_driver::{Clock, Instant, ListClock, SystemClock, SystemClock as StdClock};
+pub use mono_lines::trace::{Cause, Failure, Stage};
 pub use mono_text::{
     Fault, InputError, MAX_INPUT, MemSink, MemSource, PlainSink, PlainSource, Reader, Reason, Sink,
     SinkFault, Source, SourceFault, StdinSource, StdoutSink, read_all, report_line, write_all,
 };
-pub use mono_trace_lines::{Cause, Failure, Stage};
 pub use replay::answer;
 pub use top::{explained, program};
 pub use word_texts::shown;

@@ -5,7 +5,7 @@ ghost use Rattle.mono_script.specs.Meanings.{limiting};
 
 use crate::ends::Output;
 use crate::services::output_of;
-use mono_limit_lines::limiter;
+use mono_lines::limit::limiter;
 use std::alloc::{AllocError, Global};
 
 // Returns the output of a limiter for an input.

@@ -5,7 +5,7 @@ ghost use Rattle.mono_script.specs.Meanings.{keeping_sessions};
 
 use crate::ends::Output;
 use crate::services::output_of;
-use mono_session_lines::sessions;
+use mono_lines::session::sessions;
 use std::alloc::{AllocError, Global};
 
 pub(crate) fn output_of_sessions(

@@ -4,9 +4,9 @@ ghost use Rattle.mono_rt.specs.Views.{CanRun, Rests};
 ghost use Rattle.example_checks.specs.WholeAnswers.{IsYesIfLeft};
 ghost use Rattle.example_checks.specs.LeftCalls.{LeavesOneMore, LeavesWhole};
 
+use mono_lines::trace::{Answer, check_whole};
 use mono_machine::{Blocking, Limits};
 use mono_rt::{Cx, Driver, Host, Outcome, RunError, Runtime, SharedState, TaskFuture, ThreadPool};
-use mono_trace_lines::{Answer, check_whole};
 use std::alloc::{AllocError, Global};
 
 /// Runs one more call of `block_on` on a runtime. If the calls so far left the runtime's history, this call leaves it with

@@ -14,7 +14,7 @@ pub fn whole_calls_pass()
     ensures { WholeCallsPass }
 {}
 
-/// Shows that the only answer of `mono_trace_lines::check_whole` to the text of such a journal is Yes, with and without the
+/// Shows that the only answer of `mono_lines::trace::check_whole` to the text of such a journal is Yes, with and without the
 /// line of the last call's output.
 pub fn whole_answers_are_yes()
     ensures { WholeAnswersAreYes }

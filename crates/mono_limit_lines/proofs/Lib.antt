@@ -1,5 +1,0 @@
-pub mod ClockStepLemmas
-pub mod SpellingLemmas
-pub mod ServiceLemmas
-pub mod RunLemmas
-pub mod FollowLemmas

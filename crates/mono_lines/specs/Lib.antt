@@ -1,0 +1,16 @@
+pub mod PrintableReports
+pub mod ReportParser
+pub mod Journal
+pub mod CheckProgress
+pub mod SessionTexts
+pub mod SessionParser
+pub mod SessionServices
+pub mod SessionRuns
+pub mod LimiterTexts
+pub mod LimiterParser
+pub mod ActorTexts
+pub mod ActorParser
+pub mod ActorAnswers
+pub mod ActorReplies
+pub mod ActorTurns
+pub mod ActorRuns

@@ -1,0 +1,9 @@
+//! The lines of a limiter: calls in, answers out.
+
+mod calls;
+pub mod laws;
+mod print;
+mod read;
+mod serve;
+
+pub use serve::{follow_limiter, limiter};

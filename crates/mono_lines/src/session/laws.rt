@@ -1,0 +1,8 @@
+// A law of the definitions alone.
+ghost use Rattle.mono_lines.specs.SessionRuns.{AreOneRun};
+
+/// Shows that the answers to the lines of an input are those of one run of the lines' calls. So each law of sessions
+/// over any list of calls holds of it.
+pub fn lines_are_one_run()
+    ensures { AreOneRun }
+{}

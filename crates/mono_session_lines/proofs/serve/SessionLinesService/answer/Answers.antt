@@ -1,4 +1,0 @@
-use Rattle.mono_session_lines.proofs.serve.SessionLinesService.answer.Goals as goal
-
-pub returns-in-Acquire : goal.returns-in-Acquire
-returns-in-Acquire c = rw c.in-Acquire.is c.acquire.ensures

@@ -1,4 +1,0 @@
-pub mod Lines
-pub mod Parser
-pub mod Services
-pub mod AllLines

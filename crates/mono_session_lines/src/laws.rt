@@ -1,8 +1,0 @@
-// A law of the definitions alone.
-ghost use Rattle.mono_session_lines.specs.AllLines.{AreOneRun};
-
-/// Shows that the answers to the lines of an input are those of one run of the lines' calls. So each law of sessions
-/// over any list of calls holds of it.
-pub fn lines_are_one_run()
-    ensures { AreOneRun }
-{}

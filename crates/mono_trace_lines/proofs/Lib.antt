@@ -1,5 +1,0 @@
-pub mod SpellingLemmas
-pub mod ReportReadingLemmas
-pub mod JournalLineLemmas
-pub mod CheckLemmas
-mod TurnPartLemmas

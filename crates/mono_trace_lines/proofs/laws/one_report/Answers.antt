@@ -1,5 +1,0 @@
-use Rattle.mono_trace_lines.proofs.JournalLineLemmas.{one_report}
-use Rattle.mono_trace_lines.proofs.laws.one_report.Goals as goal
-
-pub returns : goal.returns
-returns c = λ bytes r other rest behind f g b d. one_report bytes r other rest behind f g b d

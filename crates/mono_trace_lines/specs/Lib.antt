@@ -1,4 +1,0 @@
-pub mod PrintableReports
-pub mod Parser
-pub mod Journal
-pub mod CheckProgress
