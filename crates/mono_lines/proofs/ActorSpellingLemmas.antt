@@ -1,83 +1,27 @@
 -- Calls are read as they are spelled, and spelled as they are read.
-use Rattle.std.proofs.Common.{◌≡◌, ℕ, zero, suc, ◌^◌, ◌<◌, ◌≤◌, ◌++◌, List, [], ◌∷◌, length, Some, None, Option, Bool, true, false, ◌⊎◌, refl, sym, ap, subst, ◌∙◌, arith, inl, inr, append_assoc, length-append, codes, lit≤, lit<, IfOk, IfSome, IfNone, Result, Ok, Err}
+use Rattle.std.proofs.Common.{◌≡◌, ℕ, zero, suc, ◌^◌, ◌<◌, ◌++◌, List, [], ◌∷◌, length, Some, None, Bool, true, false, ◌⊎◌, refl, sym, ap, subst, ◌∙◌, arith, inl, inr, append_assoc, length-append, codes, lit<}
 use Rattle.std.proofs.lemmas.List.{append-nil}
 use Rattle.std.specs.Fmt.{decimal}
-use Rattle.mono_text.specs.Parser.{GivesIf, Read, when, mapped, then_read, word_at, number_at, nanos_at}
-use Rattle.mono_text.specs.Services.{StartsWith, StartsWithNone}
+use Rattle.mono_text.specs.Parser.{Read, word_at, number_at}
 use Rattle.mono_text.proofs.PrefixLemmas.{word_is}
-use Rattle.mono_text.proofs.DigitLemmas.{digits_found, digits_again, starts_digit}
+use Rattle.mono_text.proofs.DigitLemmas.{digits_again, starts_digit}
+use Rattle.mono_text.proofs.SpellingLemmas.{when_cases, mapped_some, then_some, numbered_found}
+use Rattle.mono_text.proofs.CallLemmas.{Spells, nanos_below_wide, number_found, number_again, two_found}
 use Rattle.mono_lines.specs.declared.actor.words.Handed.{Handed}
 use Rattle.mono_lines.specs.declared.actor.words.ActorLine.{ActorLine}
 use Rattle.mono_lines.specs.declared.actor.words.ActorLine.TheVariants as line
 use Rattle.mono_lines.specs.ActorTexts.{handed_text, stop_text, parts_text, line_text, FitsHanded, FitSends, FitsLine}
-use Rattle.mono_lines.specs.ActorParser.{pair_at, handed_with, handed_at, send_at, timeout_at, stop_at, stops_or, part_at, parts_at, plain_at, call_at, line_at}
+use Rattle.mono_lines.specs.Pairs.{pair_at}
+use Rattle.mono_lines.specs.ActorParser.{handed_with, handed_at, send_at, timeout_at, stop_at, stops_or, part_at, parts_at, plain_at, call_at}
 use Rattle.mono_lines.proofs.ActorFeedLemmas.{line_plain}
 
 -- ---- tools
-
-when_cases : {A : Type 0} (o : Option (List ℕ)) (f : List ℕ → A) (other y : A) → when o f other ≡ y
-    → ((r : List ℕ) × (o ≡ Some r) × (f r ≡ y)) ⊎ ((o ≡ None) × (other ≡ y))
-when_cases None f other y e = inr (refl, e)
-when_cases (Some r) f other y e = inl (r, refl, e)
-
-mapped_some : {A B : Type 0} (f : A → B) (o : Read A) (y : B) (rest : List ℕ) → mapped f o ≡ Some (y, rest)
-    → (x : A) × (o ≡ Some (x, rest)) × (f x ≡ y)
-mapped_some f None y rest e = cc e
-mapped_some f (Some x) y rest e =
-    let k : (f x.0 ≡ y) × (x.1 ≡ rest) = grind arith in
-    (x.0, ap (λ r. Some (x.0, r)) k.1, k.0)
-
-then_some : {A B : Type 0} (o : Read A) (f : A → List ℕ → Read B) (y : B × List ℕ) → then_read o f ≡ Some y
-    → (x : A) × (r : List ℕ) × (o ≡ Some (x, r)) × (f x r ≡ Some y)
-then_some None f y e = cc e
-then_some (Some x) f y e = (x.0, x.1, refl, e)
-
-small : 2 ^ 64 ≤ 10 ^ 64
-small = lit≤ tt
-
-large : 2 ^ 128 ≤ 10 ^ 64
-large = lit≤ tt
-
-number_found : (bytes : List ℕ) (n : ℕ) (rest : List ℕ) → number_at bytes ≡ Some (n, rest) → (bytes ≡ decimal n ++ rest) × (n < 2 ^ 64)
-number_found bytes n rest e = digits_found (2 ^ 64) bytes n rest (lit< tt) small e
-
-number_again : (n : ℕ) (rest : List ℕ) → n < 2 ^ 64 → starts_digit rest ≡ false → number_at (decimal n ++ rest) ≡ Some (n, rest)
-number_again n rest f d = digits_again (2 ^ 64) n rest small f d
 
 behind : (word bytes r text rest : List ℕ) → word_at word bytes ≡ Some r → r ≡ text ++ rest → bytes ≡ (word ++ text) ++ rest
 behind word bytes r text rest w e = word_is word bytes r w ∙ ap (λ x. word ++ x) e ∙ sym (append_assoc word text rest)
 
 regroup : (a b c d : List ℕ) → a ++ (b ++ (c ++ d)) ≡ (a ++ b ++ c) ++ d
 regroup a b c d = grind (arith, append_assoc)
-
--- ---- two numbers
-
-record PairIs {A : Type 0} (make : ℕ → ℕ → A) (bytes rest : List ℕ) (y : A) : Type 0 where
-  first : ℕ
-  second : ℕ
-  is : make first second ≡ y
-  text : bytes ≡ (decimal first ++ codes " " ++ decimal second) ++ rest
-  first_fits : first < 2 ^ 64
-  second_fits : second < 2 ^ 64
-
-pair_found : {A : Type 0} (make : ℕ → ℕ → A) (bytes : List ℕ) (y : A) (rest : List ℕ) → pair_at make bytes ≡ Some (y, rest) → PairIs make bytes rest y
-pair_found make bytes y rest e =
-    let s = then_some (number_at bytes) _ (y, rest) e in
-    let n = number_found bytes s.0 s.1 s.2 in
-    elim (when_cases (word_at (codes " ") s.1) _ _ _ s.3) [
-      | inl w ↦
-          let k = mapped_some (make s.0) (number_at w.0) y rest w.2 in
-          let m = number_found w.0 k.0 rest k.1 in
-          record {
-            first = s.0;
-            second = k.0;
-            is = k.2;
-            text = n.0 ∙ ap (λ x. decimal s.0 ++ x) (word_is (codes " ") s.1 w.0 w.1 ∙ ap (λ x. codes " " ++ x) m.0) ∙ regroup (decimal s.0) (codes " ") (decimal k.0) rest;
-            first_fits = n.1;
-            second_fits = m.1;
-          }
-      | inr w ↦ cc w.1
-    ]
 
 pair_again : {A : Type 0} (make : ℕ → ℕ → A) (a b : ℕ) (rest : List ℕ) → a < 2 ^ 64 → b < 2 ^ 64 → starts_digit rest ≡ false
     → pair_at make ((decimal a ++ codes " " ++ decimal b) ++ rest) ≡ Some (make a b, rest)
@@ -90,8 +34,8 @@ pair_again make a b rest f g d =
 handed_found : (bytes : List ℕ) (h : Handed) (rest : List ℕ) → handed_at bytes ≡ Some (h, rest) → (bytes ≡ handed_text h ++ rest) × FitsHanded h
 unfolding handed_at
 handed_found bytes h rest e =
-    let k = pair_found handed_with bytes h rest e in
-    subst (λ x. (bytes ≡ handed_text x ++ rest) × FitsHanded x) k.is (k.text, (k.first_fits, k.second_fits))
+    let k = two_found [] handed_with bytes bytes h rest refl e in
+    subst (λ x. (bytes ≡ handed_text x ++ rest) × FitsHanded x) k.is (k.text, k.fits)
 
 abbrev LineIs : List ℕ → List ℕ → ActorLine → Type 0
 LineIs bytes rest call = (bytes ≡ line_text call ++ rest) × FitsLine call
@@ -116,14 +60,11 @@ send_found bytes r call rest w e =
       | inr b ↦ cc b.1
     ]
 
-timeout_front : (a b : ℕ) (rest : List ℕ) → codes "timeout " ++ ((decimal a ++ codes " " ++ decimal b) ++ rest) ≡ line_text (line.Timeout a b) ++ rest
-timeout_front a b rest = grind (arith, append_assoc)
-
 timeout_found : (bytes r : List ℕ) (call : ActorLine) (rest : List ℕ) → word_at (codes "timeout ") bytes ≡ Some r → timeout_at r ≡ Some (call, rest) → LineIs bytes rest call
 unfolding timeout_at
 timeout_found bytes r call rest w e =
-    let k = pair_found line.Timeout r call rest e in
-    subst (LineIs bytes rest) k.is (word_is (codes "timeout ") bytes r w ∙ ap (λ x. codes "timeout " ++ x) k.text ∙ timeout_front k.first k.second rest, (k.first_fits, k.second_fits))
+    let k = two_found (codes "timeout ") line.Timeout bytes r call rest w e in
+    subst (LineIs bytes rest) k.is (k.text, k.fits)
 
 stop_found : (bytes : List ℕ) (stop : Bool) (rest : List ℕ) → stop_at bytes ≡ Some (stop, rest) → bytes ≡ stop_text stop ++ rest
 unfolding stop_at
@@ -203,9 +144,8 @@ plain_found bytes call rest e = elim (when_cases (word_at (codes "actor") bytes)
       | inl w ↦ timeout_found bytes w.0 call rest w.1 w.2
       | inr v ↦ elim (when_cases (word_at (codes "clock ") bytes) _ _ _ v.1) [
         | inl w ↦
-            let k = mapped_some line.Clock (nanos_at w.0) call rest w.2 in
-            let n = digits_found (2 ^ 128) w.0 k.0 rest (lit< tt) large k.1 in
-            subst (LineIs bytes rest) k.2 (behind (codes "clock ") bytes w.0 (decimal k.0) rest w.1 n.0, n.1)
+            let k = numbered_found (2 ^ 128) (codes "clock ") line.Clock bytes w.0 call rest (lit< tt) nanos_below_wide w.1 w.2 in
+            subst (LineIs bytes rest) k.1 (k.2, k.3)
         | inr w ↦ cc w.1
       ]
     ]
@@ -220,19 +160,6 @@ call_found bytes call rest e = elim (when_cases (word_at (codes "turn") bytes) _
       subst (LineIs bytes rest) k.is (behind (codes "turn") bytes w.0 (parts_text k.sends k.stop) rest w.1 k.text, k.fit)
   | inr w ↦ plain_found bytes call rest w.1
 ]
-
-line_found : (bytes : List ℕ) (call : ActorLine) (rest : List ℕ) → line_at bytes ≡ Some (call, rest) → (bytes ≡ line_text call ++ 10 ∷ rest) × FitsLine call
-unfolding line_at
-line_found bytes call rest h =
-    let s = then_some (call_at bytes) (λ x r. when (word_at (10 ∷ []) r) (λ r. Some (x, r)) None) (call, rest) h in
-    elim (when_cases (word_at (10 ∷ []) s.1) _ _ _ s.3) [
-      | inl w ↦
-          let k : (s.0 ≡ call) × (w.0 ≡ rest) = grind (arith, w.2) in
-          let f = call_found bytes s.0 s.1 s.2 in
-          let b : s.1 ≡ 10 ∷ rest = word_is (10 ∷ []) s.1 w.0 w.1 ∙ ap (λ r. 10 ∷ r) k.1 in
-          subst (λ x. (bytes ≡ line_text x ++ 10 ∷ rest) × FitsLine x) k.0 (f.0 ∙ ap (λ r. line_text s.0 ++ r) b, f.1)
-      | inr w ↦ cc w.1
-    ]
 
 -- ---- what is spelled so is read
 
@@ -278,6 +205,9 @@ parts_long : (sends : List Handed) (stop : Bool) → length sends < length (part
 parts_long [] stop = omega arith
 parts_long (h ∷ sends) stop = omega (arith, length-append (codes "; send " ++ handed_text h) (parts_text sends stop), length-append (codes "; send ") (handed_text h), parts_long sends stop)
 
+timeout_front : (a b : ℕ) (rest : List ℕ) → codes "timeout " ++ ((decimal a ++ codes " " ++ decimal b) ++ rest) ≡ line_text (line.Timeout a b) ++ rest
+timeout_front a b rest = grind (arith, append_assoc)
+
 call_again : (call : ActorLine) (rest : List ℕ) → FitsLine call → starts_digit rest ≡ false → call_at (line_text call ++ rest) ≡ Some (call, rest)
 unfolding call_at plain_at timeout_at
 call_again line.Actor rest f d = refl
@@ -285,27 +215,9 @@ call_again (line.Send from to message) rest f d =
     ap call_at (sym (send_front from (handed_with to message) rest)) ∙ send_again from (handed_with to message) rest f.0 (f.1, f.2) d
 call_again (line.Timeout actor ms) rest f d =
     ap call_at (sym (timeout_front actor ms rest)) ∙ pair_again line.Timeout actor ms rest f.0 f.1 d
-call_again (line.Clock n) rest f d = rw (digits_again (2 ^ 128) n rest large f d) refl
+call_again (line.Clock n) rest f d = rw (digits_again (2 ^ 128) n rest nanos_below_wide f d) refl
 call_again (line.Turn sends stop) rest f d =
     parts_again sends stop (suc (length (parts_text sends stop ++ rest))) [] rest (omega (arith, length-append (parts_text sends stop) rest, parts_long sends stop)) f d
 
-line_again : (call : ActorLine) (rest : List ℕ) → FitsLine call → line_at (line_text call ++ 10 ∷ rest) ≡ Some (call, rest)
-unfolding line_at
-line_again call rest f = rw (call_again call (10 ∷ rest) f refl) refl
-
--- ---- both for what a line of code gave
-
-pub found_line : {E : Type 0} (r : Result (Option ActorLine) E) (bytes rest : List ℕ) → GivesIf r rest (line_at bytes) → IfOk r (λ found. IfSome found (λ call. StartsWith line_text FitsLine bytes call rest))
-found_line (Ok None) bytes rest g = tt
-found_line (Ok (Some call)) bytes rest g =
-    let k = line_found bytes call rest g in
-    record { is = k.0; fits = k.1; one_line = line_plain call k.1 }
-found_line (Err e) bytes rest g = tt
-
-pub no_line : {E : Type 0} (r : Result (Option ActorLine) E) (bytes rest : List ℕ) → GivesIf r rest (line_at bytes) → IfOk r (λ found. IfNone found (StartsWithNone line_text FitsLine bytes))
-no_line (Ok None) bytes rest g = λ call behind is fits.
-    let same : line_at bytes ≡ Some (call, behind) = ap line_at is ∙ line_again call behind fits in
-    let bad : ◌≡◌ {A = Read ActorLine} None (Some (call, behind)) = sym g ∙ same in
-    cc bad
-no_line (Ok (Some call)) bytes rest g = tt
-no_line (Err e) bytes rest g = tt
+pub spells : Spells line_text FitsLine call_at
+spells = record { found = call_found; again = λ call rest f. call_again call (10 ∷ rest) f refl; one_line = line_plain }

@@ -10,7 +10,8 @@ use Rattle.mono_text.proofs.CallLemmas.{Spells, below_wide, nanos_below_wide, nu
 use Rattle.mono_lines.specs.declared.limit.calls.LimiterCall.{LimiterCall}
 use Rattle.mono_lines.specs.declared.limit.calls.LimiterCall.TheVariants as line
 use Rattle.mono_lines.specs.LimiterTexts.{call_text, FitsCall, call_of}
-use Rattle.mono_lines.specs.LimiterParser.{bucket_at, take_at, retry_at, slow_call_at, call_at}
+use Rattle.mono_lines.specs.Pairs.{pair_at}
+use Rattle.mono_lines.specs.LimiterParser.{retry_at, slow_call_at, call_at}
 
 abbrev pub line_text : LimiterCall → List ℕ
 line_text c = call_text (call_of c)
@@ -30,12 +31,12 @@ three_parts a b c d e f g = grind (arith, append_assoc)
 abbrev CallIs : List ℕ → List ℕ → LimiterCall → Type 0
 CallIs bytes rest c = (bytes ≡ line_text c ++ rest) × FitsLine c
 
-bucket_found : (bytes r : List ℕ) (c : LimiterCall) (rest : List ℕ) → word_at (codes "bucket ") bytes ≡ Some r → bucket_at r ≡ Some (c, rest) → CallIs bytes rest c
+bucket_found : (bytes r : List ℕ) (c : LimiterCall) (rest : List ℕ) → word_at (codes "bucket ") bytes ≡ Some r → pair_at line.Bucket r ≡ Some (c, rest) → CallIs bytes rest c
 bucket_found bytes r c rest w e =
     let k = two_found (codes "bucket ") line.Bucket bytes r c rest w e in
     subst (CallIs bytes rest) k.is (k.text, k.fits)
 
-take_found : (bytes r : List ℕ) (c : LimiterCall) (rest : List ℕ) → word_at (codes "take ") bytes ≡ Some r → take_at r ≡ Some (c, rest) → CallIs bytes rest c
+take_found : (bytes r : List ℕ) (c : LimiterCall) (rest : List ℕ) → word_at (codes "take ") bytes ≡ Some r → pair_at line.Take r ≡ Some (c, rest) → CallIs bytes rest c
 take_found bytes r c rest w e =
     let k = two_found (codes "take ") line.Take bytes r c rest w e in
     subst (CallIs bytes rest) k.is (k.text, k.fits)

@@ -1,13 +1,10 @@
 -- The parser on lists of bytes: the result of each of its functions.
 use Rattle.std.specs.Prelude.{ℕ, zero, suc, Bool, true, false, List, [], ◌∷◌, ◌++◌, length, Some, None, codes}
 use Rattle.mono_text.specs.Parser.{Read, when, mapped, then_read, word_at, number_at, nanos_at}
+use Rattle.mono_lines.specs.Pairs.{pair_at}
 use Rattle.mono_lines.specs.declared.actor.words.Handed.{Handed}
 use Rattle.mono_lines.specs.declared.actor.words.ActorLine.{ActorLine}
 use Rattle.mono_lines.specs.declared.actor.words.ActorLine.TheVariants as line
-
--- Two numbers with a blank between them, as the value that they make.
-abbrev pub pair_at : {A : Type 0} → (ℕ → ℕ → A) → List ℕ → Read A
-pair_at make bytes = then_read (number_at bytes) (λ a rest. when (word_at (codes " ") rest) (λ r. mapped (make a) (number_at r)) None)
 
 abbrev pub handed_with : ℕ → ℕ → Handed
 handed_with to message = record { to = to; message = message }
@@ -55,7 +52,3 @@ plain_at bytes =
 
 unfoldable pub call_at : List ℕ → Read ActorLine
 call_at bytes = when (word_at (codes "turn") bytes) turn_at (plain_at bytes)
-
--- A call and the line feed after it.
-unfoldable pub line_at : List ℕ → Read ActorLine
-line_at bytes = then_read (call_at bytes) (λ c rest. when (word_at (10 ∷ []) rest) (λ r. Some (c, r)) None)

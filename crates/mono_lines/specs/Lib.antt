@@ -1,3 +1,4 @@
+pub mod Pairs
 pub mod PrintableReports
 pub mod ReportParser
 pub mod Journal

@@ -1,12 +1,9 @@
 -- The parser on lists of bytes: the call at their start, and the rest after it.
 use Rattle.std.specs.Prelude.{ℕ, List, None, codes}
-use Rattle.mono_text.specs.Parser.{Read, when, mapped, then_read, word_at, number_at, nanos_at, behind_at}
+use Rattle.mono_text.specs.Parser.{Read, when, mapped, word_at, number_at, nanos_at}
+use Rattle.mono_lines.specs.Pairs.{pair_at}
 use Rattle.mono_lines.specs.declared.session.calls.SessionCall.{SessionCall}
 use Rattle.mono_lines.specs.declared.session.calls.SessionCall.TheVariants as line
-
--- A session and a key.
-abbrev pub pair_at : (ℕ → ℕ → SessionCall) → List ℕ → Read SessionCall
-pair_at make bytes = then_read (number_at bytes) (λ s rest. mapped (make s) (behind_at rest))
 
 -- A call on the queues.
 unfoldable pub queue_call_at : List ℕ → Read SessionCall

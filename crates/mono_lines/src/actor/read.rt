@@ -1,9 +1,9 @@
 // The reader of calls.
 ghost use Rattle.std.specs.Prelude.{◌≡◌, IfOk, IfSome, IfNone};
-ghost use Rattle.mono_text.specs.Parser.{Gives, GivesIf};
+ghost use Rattle.mono_text.specs.Parser.{Gives, GivesIf, call_line_at};
 ghost use Rattle.mono_text.specs.Services.{StartsWith, StartsWithNone};
 ghost use Rattle.mono_lines.specs.ActorTexts.{line_text, FitsLine};
-ghost use Rattle.mono_lines.specs.ActorParser.{handed_at, send_at, timeout_at, stop_at, part_at, turn_at, plain_at, call_at, line_at};
+ghost use Rattle.mono_lines.specs.ActorParser.{handed_at, send_at, timeout_at, stop_at, part_at, turn_at, plain_at, call_at};
 
 use crate::actor::words::{ActorLine, Handed};
 use mono_machine::List;
@@ -16,10 +16,7 @@ fn read_handed(reader: &mut Reader) -> Option<Handed>
     ensures { Gives result reader.new.rest.now (handed_at reader.old.rest.now) }
 {
     let to = reader.number()?;
-    if !reader.take(b" ".as_slice()) {
-        return None;
-    }
-    let message = reader.number()?;
+    let message = reader.number_behind()?;
     Some(Handed { to, message })
 }
 
@@ -42,10 +39,7 @@ fn read_timeout(reader: &mut Reader) -> Option<ActorLine>
     ensures { Gives result reader.new.rest.now (timeout_at reader.old.rest.now) }
 {
     let actor = reader.number()?;
-    if !reader.take(b" ".as_slice()) {
-        return None;
-    }
-    let ms = reader.number()?;
+    let ms = reader.number_behind()?;
     Some(ActorLine::Timeout(actor, ms))
 }
 
@@ -124,10 +118,9 @@ fn read_call(alloc: Global, reader: &mut Reader) -> Result<Option<ActorLine>, Al
     Ok(read_plain(reader))
 }
 
-// Reads the next line as the definitions of `Parser` do.
-#[tactic(auto, unfolding(crate::specs::ActorParser::line_at))]
+// Reads the next line's call, if it is one.
 fn read_line(alloc: Global, reader: &mut Reader) -> Result<Option<ActorLine>, AllocError>
-    ensures { GivesIf result reader.new.rest.now (line_at reader.old.rest.now) }
+    ensures { GivesIf result reader.new.rest.now (call_line_at call_at reader.old.rest.now) }
 {
     let Some(call) = read_call(alloc, reader)? else {
         return Ok(None);

@@ -1,13 +1,15 @@
 // The reader of calls.
 ghost use Rattle.mono_text.specs.Parser.{Gives, call_line_at};
-ghost use Rattle.mono_lines.specs.LimiterParser.{bucket_at, take_at, retry_at, slow_call_at, call_at};
+ghost use Rattle.mono_lines.specs.Pairs.{pair_at};
+ghost use Rattle.mono_lines.specs.LimiterParser.{retry_at, slow_call_at, call_at};
+ghost use Rattle.mono_lines.specs.declared.limit.calls.LimiterCall.TheVariants as line;
 
 use crate::limit::calls::LimiterCall;
 use mono_text::Reader;
 
 // Reads the burst and the period of a bucket.
 fn bucket(reader: &mut Reader) -> Option<LimiterCall>
-    ensures { Gives result reader.new.rest.now (bucket_at reader.old.rest.now) }
+    ensures { Gives result reader.new.rest.now (pair_at line.Bucket reader.old.rest.now) }
 {
     let burst = reader.number()?;
     let period = reader.number_behind()?;
@@ -17,7 +19,7 @@ fn bucket(reader: &mut Reader) -> Option<LimiterCall>
 // Reads the bucket and the tokens of a take.
 #[inline(always)]
 fn take(reader: &mut Reader) -> Option<LimiterCall>
-    ensures { Gives result reader.new.rest.now (take_at reader.old.rest.now) }
+    ensures { Gives result reader.new.rest.now (pair_at line.Take reader.old.rest.now) }
 {
     let bucket = reader.number()?;
     let n = reader.number_behind()?;

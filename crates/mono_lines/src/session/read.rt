@@ -1,6 +1,7 @@
 // The reader of calls.
 ghost use Rattle.mono_text.specs.Parser.{Gives, GivesIf, call_line_at};
-ghost use Rattle.mono_lines.specs.SessionParser.{call_at, pair_at, queue_call_at};
+ghost use Rattle.mono_lines.specs.Pairs.{pair_at};
+ghost use Rattle.mono_lines.specs.SessionParser.{call_at, queue_call_at};
 ghost use Rattle.mono_lines.specs.declared.session.calls.SessionCall.TheVariants as line;
 
 use crate::session::calls::SessionCall;
