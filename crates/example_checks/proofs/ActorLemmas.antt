@@ -1,5 +1,5 @@
 -- The output of an actor that is made.
-use Rattle.std.proofs.Common.{◌≡◌, ℕ, ◌^◌, ◌-◌, ◌<◌, List, [], ◌∷◌, Option, Some, codes, lit≤, lit<, refl, ap, subst, ◌∙◌, arith}
+use Rattle.std.proofs.Common.{◌≡◌, ℕ, ◌^◌, ◌-◌, ◌<◌, List, [], ◌∷◌, Option, Some, codes, lit≤, lit<, refl, ap, subst, ◌∙◌}
 use Rattle.std.specs.Prelude.{flat_map}
 use Rattle.mono_text.specs.Lines.{lines, AreLines}
 use Rattle.mono_text.specs.Services.{Says, AnswersAll, answer_line}
@@ -7,8 +7,10 @@ use Rattle.mono_actor.specs.Actors.{Actors, no_actors}
 use Rattle.mono_actor.specs.Answers as answer
 use Rattle.mono_lines.specs.ActorTexts.{line_text, FitsLine}
 use Rattle.mono_lines.specs.ActorAnswers.{Answers}
+use Rattle.mono_lines.specs.ActorParser.{call_at}
 use Rattle.mono_lines.specs.declared.actor.words.ActorLine.{ActorLine}
 use Rattle.mono_lines.specs.declared.actor.words.ActorLine.TheVariants as asked
+use Rattle.mono_lines.proofs.ActorSpellingLemmas.{spells}
 use Rattle.mono_script.specs.declared.command.Command.TheVariants as command
 use Rattle.mono_script.specs.declared.ends.Status.TheVariants as status
 use Rattle.mono_script.specs.Command.{IsCommand}
@@ -16,7 +18,7 @@ use Rattle.mono_script.specs.Meanings.{acting}
 use Rattle.mono_script.specs.TopCall.{view_of}
 use Rattle.example_checks.specs.Outputs.{line, Gives, Ended}
 use Rattle.example_checks.proofs.NumberTextLemmas.{zero_text, one_text}
-use Rattle.example_checks.proofs.LineLemmas.{first_byte}
+use Rattle.example_checks.proofs.LineLemmas.{lines_once, call_once}
 use Rattle.example_checks.proofs.OutputLemmas.{IsOnly, gives}
 
 abbrev pub words : List (List ℕ)
@@ -31,23 +33,13 @@ output = line (codes "actor 0")
 is_command : IsCommand words (command.Actors 1 1)
 is_command = record { text = rw one_text refl; fit = (lit< tt, lit< tt) }
 
-good : AreLines (Says line_text FitsLine) (asked.Actor ∷ []) (lines input)
+abbrev calls : List ActorLine
+calls = asked.Actor ∷ []
+
+good : AreLines (Says line_text FitsLine) calls (lines input)
 good = (record { fits = tt; text_is = refl; is_ended = refl }, tt)
 
--- no other line is spelled so: each begins with another letter
-one_line : (c : ActorLine) → codes "actor" ≡ line_text c → c ≡ asked.Actor
-one_line asked.Actor e = refl
-one_line (asked.Send from to message) e = let same : ◌≡◌ {A = ℕ} 97 115 = ap first_byte e in absurd (omega (arith, same))
-one_line (asked.Timeout actor ms) e = let same : ◌≡◌ {A = ℕ} 97 116 = ap first_byte e in absurd (omega (arith, same))
-one_line (asked.Clock n) e = let same : ◌≡◌ {A = ℕ} 97 99 = ap first_byte e in absurd (omega (arith, same))
-one_line (asked.Turn sends stop) e = let same : ◌≡◌ {A = ℕ} 97 116 = ap first_byte e in absurd (omega (arith, same))
-
-one_list : (calls : List ActorLine) → AreLines (Says line_text FitsLine) calls (lines input) → calls ≡ asked.Actor ∷ []
-one_list [] p = absurd p
-one_list (c ∷ d ∷ calls) p = absurd p.1
-one_list (c ∷ []) p = ap (λ x. x ∷ []) (one_line c p.0.text_is)
-
-one_answer : (answers : List (List ℕ)) (last : Actors ℕ) → AnswersAll Answers (no_actors 1 1) (asked.Actor ∷ []) answers last → answers ≡ codes "actor 0" ∷ []
+one_answer : (answers : List (List ℕ)) (last : Actors ℕ) → AnswersAll Answers (no_actors 1 1) calls answers last → answers ≡ codes "actor 0" ∷ []
 one_answer [] last r = absurd r
 one_answer (a ∷ b ∷ answers) last r = absurd r.2
 one_answer (a ∷ []) last r =
@@ -57,10 +49,11 @@ one_answer (a ∷ []) last r =
 
 only : IsOnly (acting 1 1) input status.Done output
 only s text (is, served) =
-    let told : served.answers ≡ codes "actor 0" ∷ [] = one_answer served.answers served.last (subst (λ cs. AnswersAll Answers (no_actors 1 1) cs served.answers served.last) (one_list served.calls served.are_lines) served.run) in
+    let same : served.calls ≡ calls = lines_once (Says line_text FitsLine) (call_once line_text FitsLine call_at spells) served.calls calls (lines input) served.are_lines good in
+    let told : served.answers ≡ codes "actor 0" ∷ [] = one_answer served.answers served.last (subst (λ cs. AnswersAll Answers (no_actors 1 1) cs served.answers served.last) same served.run) in
     (is, served.output_is ∙ ap (flat_map answer_line) told)
 
 pub actors_give : (before after : Option (List ℕ)) (faults later code : ℕ) → faults < 2 ^ 64 - 1 → Ended words input before after faults later code → Gives 0 output before after code
 actors_give before after faults later code few p =
     gives words p.0 (view_of (Some input) 0 before faults p.2.0) (view_of p.1 0 after later p.2.1) code (command.Actors 1 1) input output status.Done
-    refl refl few p.2.2 is_command refl (lit≤ tt) ((asked.Actor ∷ []), good) only (λ e. p.2.2.done e)
+    refl refl few p.2.2 is_command refl (lit≤ tt) (calls, good) only (λ e. p.2.2.done e)

@@ -10,11 +10,6 @@ use Rattle.mono_lines.specs.Journal.{IsJournalLine}
 use Rattle.mono_lines.specs.declared.trace.journal.JournalLine.{JournalLine}
 use Rattle.mono_lines.proofs.JournalLineLemmas.{one_line}
 
--- the first byte of a text, or 0
-abbrev pub first_byte : List ℕ → ℕ
-first_byte [] = 0
-first_byte (x ∷ xs) = x
-
 pub lines_once : {A : Type 0} (Is : A → Line → Type 0) → ((x y : A) (l : Line) → Is x l → Is y l → x ≡ y) → (xs ys : List A) (ls : List Line) → AreLines Is xs ls → AreLines Is ys ls → xs ≡ ys
 lines_once Is once [] [] [] p q = refl
 lines_once Is once (x ∷ xs) (y ∷ ys) (l ∷ ls) p q = ap (λ z. z ∷ xs) (once x y l p.0 q.0) ∙ ap (λ zs. y ∷ zs) (lines_once Is once xs ys ls p.1 q.1)

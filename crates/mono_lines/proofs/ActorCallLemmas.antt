@@ -19,6 +19,7 @@ use Rattle.mono_lines.specs.declared.actor.words.ActorLine.{ActorLine}
 use Rattle.mono_lines.specs.declared.actor.words.ActorLine.TheVariants as line
 use Rattle.mono_lines.specs.ActorAnswers.{answer_text, answer_part, send_from, Makes}
 use Rattle.mono_lines.specs.ActorTurns.{SendsAll, IsAnswered}
+use Rattle.mono_lines.proofs.ServiceLemmas.{on_ok}
 
 -- ---- who has the turn
 
@@ -147,10 +148,6 @@ whole_turn sends stop old mid late new me got after out middle written none begi
 pub one_told : (old new : Actors ℕ) (asked : ActorLine) (a : Answer ℕ) (out written : List ℕ) → Makes old asked a [] new → written ≡ out ++ answer_text a → IsAnswered old asked out new written
 one_told old new asked a out written makes put =
     record { text = answer_text a; answers = record { first = a; others = []; makes = makes; text_is = sym (append-nil (answer_text a)) }; behind = put }
-
-pub on_ok : {A E P Q : Type 0} (r : Result A E) → (P → Q) → OnOk r P → OnOk r Q
-on_ok (Ok x) f p = f p
-on_ok (Err e) f p = tt
 
 both_ok : {A E P Q R : Type 0} (s : Result A E) → OnOk s P → (P → Q → R) → IsOk s × Q → R
 both_ok (Ok x) p f q = f p q.1

@@ -1,3 +1,4 @@
+pub mod ServiceLemmas
 pub mod ReportSpellingLemmas
 pub mod ReportReadingLemmas
 pub mod JournalLineLemmas
@@ -5,12 +6,8 @@ pub mod CheckLemmas
 mod ReportTurnLemmas
 pub mod SessionSpellingLemmas
 pub mod SessionAnswerLemmas
-pub mod SessionRunLemmas
 pub mod LimiterClockLemmas
 pub mod LimiterSpellingLemmas
-pub mod LimiterServiceLemmas
-pub mod LimiterRunLemmas
-pub mod LimiterFollowLemmas
 pub mod ActorSpellingLemmas
 pub mod ActorFeedLemmas
 pub mod ActorTurnLemmas

@@ -9,15 +9,8 @@ use Rattle.mono_text.proofs.SpellingLemmas.{when_cases, mapped_some, then_some, 
 use Rattle.mono_text.proofs.CallLemmas.{Spells, below_wide, nanos_below_wide, number_found, number_again, behind_found, two_found, one_line_number, one_line_two, one_line_both}
 use Rattle.mono_lines.specs.declared.limit.calls.LimiterCall.{LimiterCall}
 use Rattle.mono_lines.specs.declared.limit.calls.LimiterCall.TheVariants as line
-use Rattle.mono_lines.specs.LimiterTexts.{call_text, FitsCall, call_of}
-use Rattle.mono_lines.specs.Pairs.{pair_at}
+use Rattle.mono_lines.specs.LimiterTexts.{call_text, FitsCall}
 use Rattle.mono_lines.specs.LimiterParser.{retry_at, slow_call_at, call_at}
-
-abbrev pub line_text : LimiterCall → List ℕ
-line_text c = call_text (call_of c)
-
-abbrev pub FitsLine : LimiterCall → Type 0
-FitsLine c = FitsCall (call_of c)
 
 -- the parts of a line of two numbers, and of three
 two_parts : (a b c d e : List ℕ) → a ++ (b ++ (c ++ (d ++ e))) ≡ a ++ b ++ c ++ d ++ e
@@ -29,20 +22,10 @@ three_parts a b c d e f g = grind (arith, append_assoc)
 -- ---- what is read is spelled so
 
 abbrev CallIs : List ℕ → List ℕ → LimiterCall → Type 0
-CallIs bytes rest c = (bytes ≡ line_text c ++ rest) × FitsLine c
-
-bucket_found : (bytes r : List ℕ) (c : LimiterCall) (rest : List ℕ) → word_at (codes "bucket ") bytes ≡ Some r → pair_at line.Bucket r ≡ Some (c, rest) → CallIs bytes rest c
-bucket_found bytes r c rest w e =
-    let k = two_found (codes "bucket ") line.Bucket bytes r c rest w e in
-    subst (CallIs bytes rest) k.is (k.text, k.fits)
-
-take_found : (bytes r : List ℕ) (c : LimiterCall) (rest : List ℕ) → word_at (codes "take ") bytes ≡ Some r → pair_at line.Take r ≡ Some (c, rest) → CallIs bytes rest c
-take_found bytes r c rest w e =
-    let k = two_found (codes "take ") line.Take bytes r c rest w e in
-    subst (CallIs bytes rest) k.is (k.text, k.fits)
+CallIs bytes rest c = (bytes ≡ call_text c ++ rest) × FitsCall c
 
 retry_text : (bytes r : List ℕ) (base cap most : ℕ) (q p rest : List ℕ) → bytes ≡ codes "retry " ++ r → r ≡ decimal base ++ q → q ≡ codes " " ++ decimal cap ++ p → p ≡ codes " " ++ decimal most ++ rest
-    → bytes ≡ line_text (line.Retry base cap most) ++ rest
+    → bytes ≡ call_text (line.Retry base cap most) ++ rest
 retry_text bytes r base cap most q p rest i j k l = i ∙ ap (λ x. codes "retry " ++ x) (j ∙ ap (λ x. decimal base ++ x) (k ∙ ap (λ x. codes " " ++ decimal cap ++ x) l))
     ∙ three_parts (codes "retry ") (decimal base) (codes " ") (decimal cap) (codes " ") (decimal most) rest
 
@@ -59,7 +42,9 @@ retry_found bytes r c rest w e =
 slow_call_found : (bytes : List ℕ) (c : LimiterCall) (rest : List ℕ) → slow_call_at bytes ≡ Some (c, rest) → CallIs bytes rest c
 unfolding slow_call_at
 slow_call_found bytes c rest e = elim (when_cases (word_at (codes "bucket ") bytes) _ _ _ e) [
-  | inl u ↦ bucket_found bytes u.0 c rest u.1 u.2
+  | inl u ↦
+      let k = two_found (codes "bucket ") line.Bucket bytes u.0 c rest u.1 u.2 in
+      subst (CallIs bytes rest) k.is (k.text, k.fits)
   | inr v ↦ elim (when_cases (word_at (codes "retry ") bytes) _ _ _ v.1) [
     | inl u ↦ retry_found bytes u.0 c rest u.1 u.2
     | inr w ↦ elim (when_cases (word_at (codes "done ") bytes) _ _ _ w.1) [
@@ -74,7 +59,9 @@ slow_call_found bytes c rest e = elim (when_cases (word_at (codes "bucket ") byt
 call_found : (bytes : List ℕ) (c : LimiterCall) (rest : List ℕ) → call_at bytes ≡ Some (c, rest) → CallIs bytes rest c
 unfolding call_at
 call_found bytes c rest e = elim (when_cases (word_at (codes "take ") bytes) _ _ _ e) [
-  | inl u ↦ take_found bytes u.0 c rest u.1 u.2
+  | inl u ↦
+      let k = two_found (codes "take ") line.Take bytes u.0 c rest u.1 u.2 in
+      subst (CallIs bytes rest) k.is (k.text, k.fits)
   | inr v ↦ elim (when_cases (word_at (codes "fail ") bytes) _ _ _ v.1) [
     | inl u ↦
         let k = numbered_found (2 ^ 64) (codes "fail ") line.Fail bytes u.0 c rest (lit< tt) below_wide u.1 u.2 in
@@ -90,7 +77,7 @@ call_found bytes c rest e = elim (when_cases (word_at (codes "take ") bytes) _ _
 
 -- ---- what is spelled so is read
 
-call_again : (c : LimiterCall) (rest : List ℕ) → FitsLine c → call_at (line_text c ++ 10 ∷ rest) ≡ Some (c, 10 ∷ rest)
+call_again : (c : LimiterCall) (rest : List ℕ) → FitsCall c → call_at (call_text c ++ 10 ∷ rest) ≡ Some (c, 10 ∷ rest)
 unfolding call_at slow_call_at
 call_again (line.Bucket burst period) rest f =
     ap call_at (sym (two_parts (codes "bucket ") (decimal burst) (codes " ") (decimal period) (10 ∷ rest)))
@@ -107,7 +94,7 @@ call_again (line.Clock n) rest f = rw (digits_again (2 ^ 128) n (10 ∷ rest) na
 
 -- ---- no line feed in a line
 
-one_line_call : (c : LimiterCall) → FitsLine c → HasNoFeed (line_text c)
+one_line_call : (c : LimiterCall) → FitsCall c → HasNoFeed (call_text c)
 one_line_call (line.Bucket burst period) f = one_line_two (codes "bucket ") burst period (refl, (refl, (refl, (refl, (refl, (refl, (refl, tt))))))) (omega (arith, f.0)) (omega (arith, f.1))
 one_line_call (line.Take b n) f = one_line_two (codes "take ") b n (refl, (refl, (refl, (refl, (refl, tt))))) (omega (arith, f.0)) (omega (arith, f.1))
 one_line_call (line.Retry base cap most) f =
@@ -118,5 +105,5 @@ one_line_call (line.Fail r) f = one_line_number (codes "fail ") r (refl, (refl, 
 one_line_call (line.Done r) f = one_line_number (codes "done ") r (refl, (refl, (refl, (refl, (refl, tt))))) (omega arith)
 one_line_call (line.Clock n) f = one_line_number (codes "clock ") n (refl, (refl, (refl, (refl, (refl, (refl, tt)))))) (omega arith)
 
-pub spells : Spells line_text FitsLine call_at
+pub spells : Spells call_text FitsCall call_at
 spells = record { found = call_found; again = call_again; one_line = one_line_call }

@@ -3,6 +3,8 @@ use Rattle.std.specs.Prelude.{◌≡◌, ◌^◌, ◌<◌, ℕ, List, [], ◌++�
 use Rattle.mono_text.specs.LineText.{number_part}
 use Rattle.mono_text.specs.Services.{answer_line, AnswersAll}
 use Rattle.mono_limit.specs.Limiter.{Limits}
+use Rattle.mono_limit.specs.Limits.{limits_of}
+use Rattle.mono_limit.specs.declared.limiter.Limiter.{Limiter}
 use Rattle.mono_limit.specs.Calls.{Call}
 use Rattle.mono_limit.specs.Calls as call
 use Rattle.mono_limit.specs.Answers.{Answer}
@@ -17,22 +19,23 @@ use Rattle.mono_lines.specs.declared.limit.calls.LimiterCall.TheVariants as line
 
 -- ---- calls
 
-abbrev pub call_text : Call → List ℕ
-call_text (call.Bucket burst period) = codes "bucket " ++ decimal burst ++ codes " " ++ decimal period
-call_text (call.Take b n) = codes "take " ++ decimal b ++ codes " " ++ decimal n
-call_text (call.Retry base cap most) = codes "retry " ++ decimal base ++ codes " " ++ decimal cap ++ codes " " ++ decimal most
-call_text (call.Fail r) = codes "fail " ++ decimal r
-call_text (call.Done r) = codes "done " ++ decimal r
-call_text (call.Clock n) = codes "clock " ++ decimal n
+-- The line of a call, without its line feed.
+abbrev pub call_text : LimiterCall → List ℕ
+call_text (line.Bucket burst period) = codes "bucket " ++ decimal burst ++ codes " " ++ decimal period
+call_text (line.Take b n) = codes "take " ++ decimal b ++ codes " " ++ decimal n
+call_text (line.Retry base cap most) = codes "retry " ++ decimal base ++ codes " " ++ decimal cap ++ codes " " ++ decimal most
+call_text (line.Fail r) = codes "fail " ++ decimal r
+call_text (line.Done r) = codes "done " ++ decimal r
+call_text (line.Clock n) = codes "clock " ++ decimal n
 
 -- The calls that have a line: numbers below 2 ^ 64, and nanoseconds below 2 ^ 128.
-abbrev pub FitsCall : Call → Type 0
-FitsCall (call.Bucket burst period) = (burst < 2 ^ 64) × (period < 2 ^ 64)
-FitsCall (call.Take b n) = (b < 2 ^ 64) × (n < 2 ^ 64)
-FitsCall (call.Retry base cap most) = (base < 2 ^ 64) × (cap < 2 ^ 64) × (most < 2 ^ 64)
-FitsCall (call.Fail r) = r < 2 ^ 64
-FitsCall (call.Done r) = r < 2 ^ 64
-FitsCall (call.Clock n) = n < 2 ^ 128
+abbrev pub FitsCall : LimiterCall → Type 0
+FitsCall (line.Bucket burst period) = (burst < 2 ^ 64) × (period < 2 ^ 64)
+FitsCall (line.Take b n) = (b < 2 ^ 64) × (n < 2 ^ 64)
+FitsCall (line.Retry base cap most) = (base < 2 ^ 64) × (cap < 2 ^ 64) × (most < 2 ^ 64)
+FitsCall (line.Fail r) = r < 2 ^ 64
+FitsCall (line.Done r) = r < 2 ^ 64
+FitsCall (line.Clock n) = n < 2 ^ 128
 
 -- The model's call for a line's call.
 abbrev pub call_of : LimiterCall → Call
@@ -68,15 +71,19 @@ answer_text answer.Done = codes "ok"
 answer_text (answer.Due due) = codes "due" ++ flat_map number_part due
 answer_text (answer.Refused error) = codes "refused " ++ refusal_text error
 
--- A step whose answer has this text.
-abbrev pub StepByLine : Limits → Call → List ℕ → Limits → Type 0
-StepByLine old c text new = (a : Answer) × Step old c a new × (text ≡ answer_text a)
+-- The model that contracts see of a limiter.
+abbrev pub ShowsLimits : Limiter → Limits → Type 0
+ShowsLimits limiter limits = limits_of limiter ≡ limits
+
+-- The line's call is a step of the limiter, and the text is that of its answer.
+abbrev pub StepsAs : Limits → LimiterCall → List ℕ → Limits → Type 0
+StepsAs old c text new = (a : Answer) × Step old (call_of c) a new × (text ≡ answer_text a)
 
 -- The same, with the answer's line appended to the output.
-abbrev pub StepInto : Limits → Call → List ℕ → List ℕ → Limits → Type 0
-StepInto old c before after new = (text : List ℕ) × StepByLine old c text new × (after ≡ before ++ answer_line text)
+abbrev pub StepInto : Limits → LimiterCall → List ℕ → List ℕ → Limits → Type 0
+StepInto old c before after new = (text : List ℕ) × StepsAs old c text new × (after ≡ before ++ answer_line text)
 
--- Answers by lines, one call after another, are the answers of a run.
-abbrev pub LinesAreARun : Type 0
-LinesAreARun = (start last : Limits) (calls : List Call) (texts : List (List ℕ)) → AnswersAll StepByLine start calls texts last
-    → (answers : List Answer) × (texts ≡ map answer_text answers) × Run start calls answers last
+-- The answers to the lines are those of one run of the lines' calls.
+abbrev pub AreOneRun : Type 0
+AreOneRun = (old : Limits) (said : List LimiterCall) (texts : List (List ℕ)) (last : Limits) → AnswersAll StepsAs old said texts last
+    → (answers : List Answer) × Run old (map call_of said) answers last × (texts ≡ map answer_text answers)

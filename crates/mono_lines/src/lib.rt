@@ -3,5 +3,6 @@
 
 pub mod actor;
 pub mod limit;
+mod numbers;
 pub mod session;
 pub mod trace;

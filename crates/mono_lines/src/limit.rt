@@ -6,4 +6,5 @@ mod print;
 mod read;
 mod serve;
 
+pub use calls::LimiterCall;
 pub use serve::{follow_limiter, limiter};

@@ -38,7 +38,7 @@ sound readings (command.Load seed count) = record {
   good = λ input s output a. tt;
 }
 sound readings (command.Sessions sessions entries) = sound_serving session_line.call_text session_line.FitsCall session_line.StepsAs (no_sessions sessions entries)
-sound readings (command.Limiter buckets retries) = sound_serving limiter_line.call_text limiter_line.FitsCall limiter_line.StepByLine (no_limits buckets retries)
+sound readings (command.Limiter buckets retries) = sound_serving limiter_line.call_text limiter_line.FitsCall limiter_line.StepsAs (no_limits buckets retries)
 sound readings (command.Actors actors messages) = sound_serving line_text FitsLine Answers (no_actors actors messages)
 sound readings (command.Check l g) = sound_checking l g
 sound readings (command.CheckWhole l g) = sound_checking_whole l g

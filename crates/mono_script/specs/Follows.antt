@@ -42,7 +42,7 @@ FollowsAs (command.Replay limits strategy) e rest left now before after =
 FollowsAs (command.Sessions sessions entries) e rest left now before after =
     HasFollowed session_line.call_text session_line.FitsCall session_line.StepsAs (no_sessions sessions entries) e rest left now before after ⊎ HasNotBegun e left now before after
 FollowsAs (command.Limiter buckets retries) e rest left now before after =
-    HasFollowed limiter_line.call_text limiter_line.FitsCall limiter_line.StepByLine (no_limits buckets retries) e rest left now before after ⊎ HasNotBegun e left now before after
+    HasFollowed limiter_line.call_text limiter_line.FitsCall limiter_line.StepsAs (no_limits buckets retries) e rest left now before after ⊎ HasNotBegun e left now before after
 FollowsAs (command.Actors actors messages) e rest left now before after =
     HasFollowed actor_line.line_text actor_line.FitsLine actor_answer.Answers (no_actors actors messages) e rest left now before after ⊎ HasNotBegun e left now before after
 FollowsAs (command.Run workers turns) e rest left now before after = ⊥

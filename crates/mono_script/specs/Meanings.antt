@@ -73,7 +73,7 @@ keeping_sessions most_sessions most_entries = serving session_line.call_text ses
 
 -- a limiter: lines of calls as input, on buckets and retries that begin empty, and a line for each answer of a run
 abbrev pub limiting : ℕ → ℕ → Meaning
-limiting buckets retries = serving limiter_line.call_text limiter_line.FitsCall limiter_line.StepByLine (no_limits buckets retries)
+limiting buckets retries = serving limiter_line.call_text limiter_line.FitsCall limiter_line.StepsAs (no_limits buckets retries)
 
 -- actors: lines of calls as input, and a line for each call's answers
 abbrev pub acting : ℕ → ℕ → Meaning

@@ -2,7 +2,7 @@
 
 /// A call on a limiter, written as a line.
 #[derive(Clone, Copy, Debug, PartialEq, Eq)]
-pub(crate) enum LimiterCall {
+pub enum LimiterCall {
     /// `bucket B P`: adds a bucket of this burst and period.
     Bucket(u64, u64),
     /// `take I K`: takes K tokens from this bucket.

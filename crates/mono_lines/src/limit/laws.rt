@@ -1,8 +1,8 @@
-// A law of the lines of a limiter.
-ghost use Rattle.mono_lines.specs.LimiterTexts.{LinesAreARun};
+// A law of the definitions alone.
+ghost use Rattle.mono_lines.specs.LimiterTexts.{AreOneRun};
 
-/// Shows that the lines of the answers to any calls are those of a run of the limiter's model. So each law of runs is a
-/// law of lines.
-pub fn lines_are_a_run()
-    ensures { LinesAreARun }
+/// Shows that the answers to the lines of an input are those of one run of the lines' calls. So each law of a limiter
+/// over any list of calls holds of it.
+pub fn lines_are_one_run()
+    ensures { AreOneRun }
 {}

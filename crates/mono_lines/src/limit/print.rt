@@ -5,9 +5,10 @@ ghost use Rattle.mono_limit.specs.Answers.{of_bucket, of_take, of_retry, of_fail
 ghost use Rattle.mono_limit.specs.Answers as answers;
 ghost use Rattle.mono_lines.specs.LimiterTexts.{answer_text, refusal_text};
 
+use crate::numbers::put_numbered;
 use itoa::Buffer;
 use mono_limit::{LimitError, Next, Take};
-use mono_text::{put_list, put_pair, put_word};
+use mono_text::{put_list, put_word};
 use std::alloc::AllocError;
 
 // Appends a word and a number below 2^128.
@@ -17,14 +18,6 @@ fn long_number(out: &mut Vec<u8>, text: &[u8], n: u128) -> Result<(), AllocError
     let mut buffer = Buffer::new();
     put_word(out, text)?;
     out.extend_from_slice(buffer.format(n).as_bytes())
-}
-
-// Appends a line of a word and a number.
-fn numbered(out: &mut Vec<u8>, text: &[u8], n: u64) -> Result<(), AllocError>
-    ensures { OnOk result (out.new.items ≡ out.old.items ++ answer_line (text.now ++ decimal n)) }
-{
-    put_pair(out, text, n)?;
-    put_word(out, b"\n".as_slice())
 }
 
 // Returns the line of a refusal. Out of memory has none.
@@ -60,7 +53,7 @@ pub(crate) fn bucket(out: &mut Vec<u8>, told: Result<u64, LimitError>) -> Result
     ensures memory { OnOk result (told ≢ Err LimitError.Memory) }
 {
     match told {
-        Ok(bucket) => numbered(out, b"bucket ".as_slice(), bucket),
+        Ok(bucket) => put_numbered(out, b"bucket ".as_slice(), bucket),
         Err(error) => refused(out, error),
     }
 }
@@ -85,7 +78,7 @@ pub(crate) fn retry(out: &mut Vec<u8>, told: Result<u64, LimitError>) -> Result<
     ensures memory { OnOk result (told ≢ Err LimitError.Memory) }
 {
     match told {
-        Ok(retry) => numbered(out, b"retry ".as_slice(), retry),
+        Ok(retry) => put_numbered(out, b"retry ".as_slice(), retry),
         Err(error) => refused(out, error),
     }
 }
@@ -95,7 +88,7 @@ pub(crate) fn fail(out: &mut Vec<u8>, told: Result<Next, LimitError>) -> Result<
     ensures { OnOk result (out.new.items ≡ out.old.items ++ answer_line (answer_text (of_fail told))) }
 {
     match told {
-        Ok(Next::Again(tick)) => numbered(out, b"again ".as_slice(), tick),
+        Ok(Next::Again(tick)) => put_numbered(out, b"again ".as_slice(), tick),
         Ok(Next::GaveUp) => put_word(out, b"gave-up\n".as_slice()),
         Err(error) => refused(out, error),
     }

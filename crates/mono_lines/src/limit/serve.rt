@@ -4,8 +4,8 @@ ghost use Rattle.mono_text.specs.Services.{Serves};
 ghost use Rattle.mono_text.specs.Follows.{HasFollowed};
 ghost use Rattle.mono_limit.specs.Limiter.{no_limits};
 ghost use Rattle.mono_limit.specs.Limits.{limits_of};
-ghost use Rattle.mono_limit.specs.Calls as calls;
-ghost use Rattle.mono_lines.specs.LimiterTexts.{call_text, FitsCall, call_of, StepByLine, StepInto};
+ghost use Rattle.mono_lines.specs.LimiterTexts.{call_text, FitsCall, StepsAs, StepInto};
+ghost use Rattle.mono_lines.specs.declared.limit.calls.LimiterCall.TheVariants as line;
 
 use crate::limit::calls::LimiterCall;
 use crate::limit::{print, read};
@@ -41,14 +41,14 @@ impl LimiterLines {
         period: u64,
         out: &mut Vec<u8>,
     ) -> Result<(), AllocError>
-        ensures { OnOk result (StepInto (limits_of self.old.limiter) (calls.Bucket burst period) out.old.items out.new.items (limits_of self.new.limiter)) }
+        ensures { OnOk result (StepInto (limits_of self.old.limiter) (line.Bucket burst period) out.old.items out.new.items (limits_of self.new.limiter)) }
     {
         let told = self.limiter.bucket(alloc, burst, period);
         print::bucket(out, told)
     }
 
     fn take(&mut self, bucket: u64, n: u64, out: &mut Vec<u8>) -> Result<(), AllocError>
-        ensures { OnOk result (StepInto (limits_of self.old.limiter) (calls.Take bucket n) out.old.items out.new.items (limits_of self.new.limiter)) }
+        ensures { OnOk result (StepInto (limits_of self.old.limiter) (line.Take bucket n) out.old.items out.new.items (limits_of self.new.limiter)) }
     {
         let told = self.limiter.take(bucket, n);
         print::take(out, told)
@@ -62,28 +62,28 @@ impl LimiterLines {
         most: u64,
         out: &mut Vec<u8>,
     ) -> Result<(), AllocError>
-        ensures { OnOk result (StepInto (limits_of self.old.limiter) (calls.Retry base cap most) out.old.items out.new.items (limits_of self.new.limiter)) }
+        ensures { OnOk result (StepInto (limits_of self.old.limiter) (line.Retry base cap most) out.old.items out.new.items (limits_of self.new.limiter)) }
     {
         let told = self.limiter.retry(alloc, base, cap, most);
         print::retry(out, told)
     }
 
     fn fail(&mut self, retry: u64, out: &mut Vec<u8>) -> Result<(), AllocError>
-        ensures { OnOk result (StepInto (limits_of self.old.limiter) (calls.Fail retry) out.old.items out.new.items (limits_of self.new.limiter)) }
+        ensures { OnOk result (StepInto (limits_of self.old.limiter) (line.Fail retry) out.old.items out.new.items (limits_of self.new.limiter)) }
     {
         let told = self.limiter.fail(retry);
         print::fail(out, told)
     }
 
     fn done(&mut self, retry: u64, out: &mut Vec<u8>) -> Result<(), AllocError>
-        ensures { OnOk result (StepInto (limits_of self.old.limiter) (calls.Done retry) out.old.items out.new.items (limits_of self.new.limiter)) }
+        ensures { OnOk result (StepInto (limits_of self.old.limiter) (line.Done retry) out.old.items out.new.items (limits_of self.new.limiter)) }
     {
         let told = self.limiter.done(retry);
         print::done(out, told)
     }
 
     fn clock(&mut self, alloc: Global, n: u128, out: &mut Vec<u8>) -> Result<(), AllocError>
-        ensures { OnOk result (StepInto (limits_of self.old.limiter) (calls.Clock n) out.old.items out.new.items (limits_of self.new.limiter)) }
+        ensures { OnOk result (StepInto (limits_of self.old.limiter) (line.Clock n) out.old.items out.new.items (limits_of self.new.limiter)) }
     {
         let Some(now) = Instant::from_nanos(n) else {
             return print::refused(out, LimitError::Invalid);
@@ -99,11 +99,14 @@ impl Service for LimiterLines {
 
     type Spare = ();
 
-    ghost text = { λ call. call_text (call_of call) };
+    ghost use Rattle.mono_text.specs.Services.{AnswersAs};
+    ghost use Rattle.mono_lines.specs.LimiterTexts.{call_text, FitsCall, StepsAs, ShowsLimits};
 
-    ghost fits = { λ call. FitsCall (call_of call) };
+    ghost text = { λ call. call_text call };
 
-    ghost answers = { λ old call text new. StepByLine (limits_of old.limiter) (call_of call) text (limits_of new.limiter) };
+    ghost fits = { λ call. FitsCall call };
+
+    ghost answers = { λ old call text new. AnswersAs ShowsLimits StepsAs old.limiter call text new.limiter };
 
     fn spare(_alloc: Global) {}
 
@@ -141,7 +144,7 @@ pub fn limiter(
     retries: u64,
     input: &[u8],
 ) -> Result<Served, AllocError>
-    ensures { IfOk result (λ served. Serves call_text FitsCall StepByLine (no_limits buckets retries) input.now served) }
+    ensures { IfOk result (λ served. Serves call_text FitsCall StepsAs (no_limits buckets retries) input.now served) }
 {
     let lines = LimiterLines::new(alloc, buckets, retries)?;
     serve(alloc, lines, input)
@@ -157,7 +160,7 @@ pub fn follow_limiter<S: Source, K: Sink>(
     source: &mut S,
     sink: &mut K,
 ) -> Result<Followed, AllocError>
-    ensures followed { IfOk result (λ f. HasFollowed call_text FitsCall StepByLine (no_limits most_buckets most_retries) f.end f.rest.items
+    ensures followed { IfOk result (λ f. HasFollowed call_text FitsCall StepsAs (no_limits most_buckets most_retries) f.end f.rest.items
         (S.left source.old) (S.left source.new) (K.written sink.old) (K.written sink.new)) }
     ensures none { OnErr result ((S.left source.new ≡ S.left source.old) × (K.written sink.new ≡ K.written sink.old)) }
 {

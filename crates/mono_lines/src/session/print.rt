@@ -1,23 +1,15 @@
 // Answers as lines. Out of memory is no answer.
-ghost use Rattle.std.specs.Prelude.{◌≡◌, ◌≢◌, ◌++◌, ◌∷◌, [], codes, decimal, OnOk};
-ghost use Rattle.mono_text.specs.Services.{answer_line};
+ghost use Rattle.std.specs.Prelude.{◌≡◌, ◌≢◌, ◌++◌, ◌∷◌, [], codes, OnOk};
 ghost use Rattle.mono_session.specs.Answers.{of_number, of_done, of_first, of_owner};
 ghost use Rattle.mono_session.specs.Answers as answer;
 ghost use Rattle.mono_session.specs.declared.error.SessionError.TheVariants as why;
 ghost use Rattle.mono_lines.specs.SessionTexts.{error_text};
 ghost use Rattle.mono_lines.specs.SessionServices.{Wrote, WroteOf};
 
+use crate::numbers::put_numbered;
 use mono_session::SessionError;
-use mono_text::{put_pair, put_word};
+use mono_text::put_word;
 use std::alloc::AllocError;
-
-// Appends a word and then a number, as a line.
-fn number_line(out: &mut Vec<u8>, word: &[u8], n: u64) -> Result<(), AllocError>
-    ensures { OnOk result (out.new.items ≡ out.old.items ++ answer_line (word.now ++ decimal n)) }
-{
-    put_pair(out, word, n)?;
-    put_word(out, b"\n".as_slice())
-}
 
 fn refusal_line(error: SessionError) -> &'static [u8]
     ensures { result.now ≡ codes "refused " ++ error_text error ++ 10 ∷ [] }
@@ -49,7 +41,7 @@ pub(crate) fn put_opened(
     ensures { OnOk result (WroteOf of_number told out.old.items out.new.items) }
 {
     match told {
-        Ok(session) => number_line(out, b"session ".as_slice(), session),
+        Ok(session) => put_numbered(out, b"session ".as_slice(), session),
         Err(error) => put_refused(out, error),
     }
 }
@@ -80,7 +72,7 @@ pub(crate) fn put_owner(out: &mut Vec<u8>, told: Option<u64>) -> Result<(), Allo
     ensures { OnOk result (Wrote (of_owner told) out.old.items out.new.items) }
 {
     match told {
-        Some(session) => number_line(out, b"owner ".as_slice(), session),
+        Some(session) => put_numbered(out, b"owner ".as_slice(), session),
         None => put_word(out, b"free\n".as_slice()),
     }
 }

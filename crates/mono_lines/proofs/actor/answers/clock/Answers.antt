@@ -5,7 +5,8 @@ use Rattle.mono_actor.specs.Callers.{actors_of}
 use Rattle.mono_actor.specs.Steps.{ClockStep}
 use Rattle.mono_lines.specs.ActorAnswers.{answer_text}
 use Rattle.mono_lines.specs.declared.actor.words.ActorLine.TheVariants as line
-use Rattle.mono_lines.proofs.ActorCallLemmas.{one_told, on_ok}
+use Rattle.mono_lines.proofs.ServiceLemmas.{on_ok}
+use Rattle.mono_lines.proofs.ActorCallLemmas.{one_told}
 use Rattle.mono_lines.proofs.actor.answers.clock.Goals as goal
 
 pub returns-in_default-clause-answered : goal.returns-in_default-clause-answered

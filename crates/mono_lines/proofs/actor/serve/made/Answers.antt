@@ -1,7 +1,8 @@
 use Rattle.std.proofs.Common.{refl}
 use Rattle.mono_lines.specs.ActorReplies.{answer_of}
 use Rattle.mono_lines.specs.declared.actor.words.ActorLine.TheVariants as line
-use Rattle.mono_lines.proofs.ActorCallLemmas.{one_told, on_ok}
+use Rattle.mono_lines.proofs.ServiceLemmas.{on_ok}
+use Rattle.mono_lines.proofs.ActorCallLemmas.{one_told}
 use Rattle.mono_lines.proofs.actor.serve.made.Goals as goal
 
 pub returns-in_ok-told-in-Actor-clause-answered : goal.returns-in_ok-told-in-Actor-clause-answered
