@@ -7,8 +7,8 @@
 #                    none of these crates again on this machine
 #   make test        the gate: every proof, mutant, test and program; it ends in `rt ci`
 #   make examples    builds the program, and compares each example's reports, causes and exit status with those stored
-#                    beside it, and the manual page with --help; it fails if a crate use_* or example_* never gives
-#                    up something that it holds
+#                    beside it, and the manual page with --help; it fails if a crate example_* never gives up
+#                    something that it holds
 #   make pages       compiles the first Rust example of each page, and the programs that are kept as text in tools/, unproved;
 #                    the programs have to print the stored lines, and the examples what their pages say; an example that
 #                    names a file has to be in it

@@ -2,7 +2,7 @@
 """Lists each crate that makes or holds something and never calls what gives it up, and each future that polls another and
 whose `cancel` gives nothing up. Ends with status 1 if there is one.
 
-The crates are use_*, example_* and those of which docs/GUIDE.md shows code. The pairs are the table "Give up what you hold" of that
+The crates are example_* and those of which docs/GUIDE.md shows code. The pairs are the table "Give up what you hold" of that
 guide, row by row. Names alone decide, so this finds only what a crate forgets altogether. It leaves out what ends with its
 runtime: tasks that `Runtime::spawn` makes, and channels, semaphores and watched values of the shared value.
 
@@ -89,7 +89,7 @@ def forgotten(text):
 
 
 def crates():
-    shown = {crate for kind in ("use_*", "example_*") for crate in glob.glob(os.path.join(TOP, "crates", kind))}
+    shown = set(glob.glob(os.path.join(TOP, "crates", "example_*")))
     with open(os.path.join(TOP, "docs", "GUIDE.md"), encoding="utf-8") as guide:
         for name in re.findall(r"^// (\w+)/src/", guide.read(), re.M):
             shown.add(os.path.join(TOP, "crates", name))

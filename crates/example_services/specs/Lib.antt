@@ -1,2 +1,4 @@
 pub mod Parties
 pub mod Rates
+pub mod Producers
+pub mod Boards

@@ -6,7 +6,7 @@ ghost use Rattle.mono_sync.specs.Mpsc as messages;
 ghost use Rattle.mono_sync.specs.Semaphores as permit;
 ghost use Rattle.mono_sync.specs.Listed.{channel_some, semaphore_some};
 ghost use Rattle.mono_sync.specs.Parts.{lists_parts, owes_parts, some_parts, first_keeps, second_keeps, nil_first, nil_second};
-ghost use Rattle.use_channel.specs.Boards.{numbers, permits};
+ghost use Rattle.example_services.specs.Boards.{numbers, permits};
 
 use mono_rt::SharedState;
 use mono_sync::mpsc::Channel;

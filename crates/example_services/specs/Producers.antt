@@ -1,8 +1,8 @@
--- A party that has answered.
+-- A sender or receiver that has answered.
 use Rattle.std.specs.Prelude.{Bool, true}
 use Rattle.mono_sync.specs.Spent.{acquire_spent, recv_spent, send_spent}
-use Rattle.use_channel.specs.declared.parties.Party.{Party}
-use Rattle.use_channel.specs.declared.parties.Party.TheVariants.{Asks, Sends, Receives, Over}
+use Rattle.example_services.specs.declared.channels.parties.Party.{Party}
+use Rattle.example_services.specs.declared.channels.parties.Party.TheVariants.{Asks, Sends, Receives, Over}
 
 abbrev pub is_over : Party → Bool
 is_over Over = true

@@ -2,7 +2,7 @@
 use Rattle.std.specs.Prelude.{ℕ}
 use Rattle.mono_sync.specs.declared.mpsc.Channel.{Channel}
 use Rattle.mono_sync.specs.declared.semaphores.Semaphore.{Semaphore}
-use Rattle.use_channel.specs.declared.boards.Board.{Board}
+use Rattle.example_services.specs.declared.channels.boards.Board.{Board}
 
 abbrev pub numbers : Board → Channel ℕ
 numbers w = w.numbers

@@ -1,8 +1,8 @@
 // The sender and the receiver.
 ghost use Rattle.std.specs.Prelude.{⊤};
-ghost use Rattle.use_channel.specs.Parties.{is_over};
+ghost use Rattle.example_services.specs.Producers.{is_over};
 
-use crate::boards::Board;
+use crate::channels::boards::Board;
 use mono_rt::{Host, Poll, SharedContext, TaskFuture};
 use mono_sync::mpsc::{Recv, Send};
 use mono_sync::{Acquire, permits};
@@ -34,21 +34,13 @@ impl Party {
     }
 }
 
-// Queues the running task again after its turn.
-fn again<C: SharedContext<Board>>(cx: &mut C)
-    ensures { C.reaches cx.old cx.new }
-{
-    let me = cx.me();
-    let _ = cx.wake(me);
-}
-
 // Releases the permit of a number that was received, and queues the task again if some are left.
 fn received<C: SharedContext<Board>>(cx: &mut C, left: u64)
     ensures { C.reaches cx.old cx.new }
 {
     let _ = permits::release::<Board, C>(cx);
     if left > 0 {
-        again(cx);
+        cx.wake_me();
     }
 }
 
@@ -83,7 +75,7 @@ impl<C: SharedContext<Board>> TaskFuture<C> for Party {
                     Poll::Ready(Err(_)) => Poll::Ready(0),
                     Poll::Ready(Ok(())) => {
                         *self = Party::Sends(Send::new(number), number, left);
-                        again(cx);
+                        cx.wake_me();
                         Poll::Pending
                     }
                 }
@@ -101,7 +93,7 @@ impl<C: SharedContext<Board>> TaskFuture<C> for Party {
                             return Poll::Ready(number);
                         }
                         *self = Party::Asks(Acquire::new(), number.saturating_add(1), left - 1);
-                        again(cx);
+                        cx.wake_me();
                         Poll::Pending
                     }
                 }

@@ -1,6 +1,4 @@
 //! Tasks of one runtime that send and receive over a shared channel, with a permit for each message.
-#![tactic(auto)]
-
 ghost use Rattle.std.specs.Prelude.{◌≤◌, IfSome};
 
 mod boards;
@@ -13,13 +11,12 @@ use mono_sync::laws::stays_bounded;
 use mono_sync::mpsc::Channel;
 use parties::Party;
 use std::alloc::Global;
-use std::io;
 
 type Running = Runtime<Party, u64, TimeDriver<StepDriver>, NoPool, Board>;
 
-// Runs a consumer of all that two producers send, over a channel of `most` places. Returns the sum of its messages,
-// each times its place, and how many messages are left: at most the number of places, for each order of the tasks.
-fn sum_of<R: Host>(
+/// Runs a consumer of all that two producers send, over a channel of `most` places. Returns the sum of its messages,
+/// each times its place, and how many messages are left: at most the number of places, for each order of the tasks.
+pub fn sum_of<R: Host>(
     rt: &R,
     alloc: Global,
     most: usize,
@@ -51,17 +48,4 @@ fn sum_of<R: Host>(
         Ok(sum) => Some((sum, runtime.shared().numbers.len())),
         Err(_) => None,
     }
-}
-
-fn main(rt: HostRuntime) -> io::Result<()> {
-    let alloc = rt.alloc();
-    for (most, permits) in [(0, 1), (1, 1), (1, 4), (2, 4), (3, 4), (3, 1)] {
-        match sum_of(&rt, alloc, most, permits, 5) {
-            Some((sum, left)) => println!(rt;
-                "{most} places, {permits} permits: {sum}, {left} left"
-            )?,
-            None => println!(rt; "{most} places, {permits} permits: gave up")?,
-        }
-    }
-    Ok(())
 }
