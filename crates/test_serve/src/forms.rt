@@ -74,8 +74,7 @@ impl Beats {
         match comes(rt, alloc, cx, &mut ticks) {
             Poll::Ready(true) => {
                 self.count = self.count.saturating_add(1);
-                let me = cx.me();
-                let _ = cx.wake(me);
+                cx.wake_me();
             }
             Poll::Ready(false) => self.count = 9,
             Poll::Pending => {}

@@ -107,21 +107,21 @@ impl Party {
         match deed {
             Deed::Nap(ms) => {
                 self.doing = Doing::Naps(sleep_for(Duration::from_millis(ms)));
-                again(cx);
+                cx.wake_me();
             }
             Deed::Acquire(session, key, patience_ms) => {
                 let patience = sleep_for(Duration::from_millis(patience_ms));
                 self.doing = Doing::Acquires(Acquire::new(session, key), patience);
-                again(cx);
+                cx.wake_me();
             }
             Deed::Take(bucket, n, patience_ms) => {
                 let patience = sleep_for(Duration::from_millis(patience_ms));
                 self.doing = Doing::Takes(Take::new(bucket, n), patience);
-                again(cx);
+                cx.wake_me();
             }
             Deed::Receive(actor, patience_ms) => {
                 self.doing = Doing::Receives(receive_for(actor, patience_ms));
-                again(cx);
+                cx.wake_me();
             }
             Deed::Send(from, to, message) => {
                 let answer = mail::send::<Desk, u64, C>(cx, from, to, message);
@@ -171,7 +171,7 @@ impl Party {
                 Poll::Pending
             }
             Poll::Ready(_) => {
-                again(cx);
+                cx.wake_me();
                 Poll::Pending
             }
         }
@@ -383,20 +383,12 @@ fn acquired(answer: Result<(), AcquireError>) -> Answer {
     }
 }
 
-// Queues the running task again after its turn.
-fn again<C: SharedContext<Desk>>(cx: &mut C)
-    ensures { C.reaches cx.old cx.new }
-{
-    let me = cx.me();
-    let _ = cx.wake(me);
-}
-
 // Notes an answer, and queues the running task again after its turn.
 fn answered<C: SharedContext<Desk>>(cx: &mut C, name: u64, answer: Answer)
     ensures { C.reaches cx.old cx.new }
 {
     note(cx, name, answer);
-    again(cx);
+    cx.wake_me();
 }
 
 // Notes an answer, if there is memory for it.
