@@ -98,8 +98,7 @@ where
             }
             Outcome::Waits => Poll::Pending,
             Outcome::Many => {
-                let me = cx.me();
-                let _ = cx.wake(me);
+                cx.wake_me();
                 Poll::Pending
             }
             Outcome::Done => unreachable!(),

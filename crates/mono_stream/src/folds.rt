@@ -77,8 +77,7 @@ where
             }
             Outcome::Waits => Poll::Pending,
             Outcome::Many => {
-                let me = cx.me();
-                let _ = cx.wake(me);
+                cx.wake_me();
                 Poll::Pending
             }
             Outcome::Found(()) => unreachable!(),

@@ -81,8 +81,7 @@ where
             }
             Stop::Waits => Poll::Pending,
             Stop::Many => {
-                let me = cx.me();
-                let _ = cx.wake(me);
+                cx.wake_me();
                 Poll::Pending
             }
         }

@@ -80,8 +80,7 @@ where
             Outcome::Ended => Poll::Ready(None),
             Outcome::Waits => Poll::Pending,
             Outcome::Many => {
-                let me = cx.me();
-                let _ = cx.wake(me);
+                cx.wake_me();
                 Poll::Pending
             }
         }

@@ -19,8 +19,8 @@ returns-in-Many-clause-polled g c = record {
   collected = _;
   middle = _;
   taken = rw c.in-Many.is at c.sift_some.ensures.sifts;
-  after = (refl, refl, c.requires.unspent, (_, rw c.me-me.ensures at c.wake.ensures.woke));
+  after = (refl, refl, c.requires.unspent, (_, c.wake_me.ensures.woke));
 }
 
 pub returns-in-Many-clause-reached : goal.returns-in-Many-clause-reached
-returns-in-Many-clause-reached g c = g.met.C.Context.reaches_on _ _ _ c.sift_some.ensures.reached c.wake.ensures.reached
+returns-in-Many-clause-reached g c = g.met.C.Context.reaches_on _ _ _ c.sift_some.ensures.reached c.wake_me.ensures.reached

@@ -19,7 +19,7 @@ returns-in-Many-clause-polled g c = record {
   folded = _;
   middle = _;
   taken = rw c.in-Many.is at c.sift_some.ensures.sifts;
-  after = (refl, refl, (_, rw c.me-me.ensures at c.wake.ensures.woke));
+  after = (refl, refl, (_, c.wake_me.ensures.woke));
   same = refl;
 }
 
@@ -31,4 +31,4 @@ returns-in-Many-clause-callable g c =
     both_if _ (is_there _ c.sift_some.ensures.able.0) (rw c.in-Many.is at c.sift_some.ensures.callable) c.sift_some.ensures.able.1
 
 pub returns-in-Many-clause-reached : goal.returns-in-Many-clause-reached
-returns-in-Many-clause-reached g c = g.met.C.Context.reaches_on _ _ _ c.sift_some.ensures.reached c.wake.ensures.reached
+returns-in-Many-clause-reached g c = g.met.C.Context.reaches_on _ _ _ c.sift_some.ensures.reached c.wake_me.ensures.reached
