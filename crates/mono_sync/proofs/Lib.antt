@@ -27,3 +27,5 @@ pub mod KeyedMessageLemmas
 pub mod OvertakeLemmas
 pub mod CoverLemmas
 pub mod PassLemmas
+pub mod PassedNoticeLemmas
+pub mod NoticeRunLemmas

@@ -1,21 +1,26 @@
 -- Whom a notice keeps, and whom it hands out.
-use Rattle.std.proofs.Common.{◌≡◌, ◌<◌, ◌-◌, ◌||◌, ◌⊎◌, ℕ, zero, suc, Bool, true, false, cond, MatchBool, List, [], ◌∷◌, Option, Some, None, Ok, Err, refl, sym, ap, ◌∙◌, nat_lt, inl, inr, arith}
+use Rattle.std.proofs.Common.{◌≡◌, ◌<◌, ◌-◌, ◌||◌, ◌⊎◌, ℕ, zero, suc, Bool, true, false, cond, MatchBool, List, [], ◌∷◌, Option, Some, None, Ok, Err, refl, sym, ap, subst, ◌∙◌, nat_lt, inl, inr, arith}
 use Rattle.std.specs.Prelude.{⊤, Result}
 use Rattle.std.specs.declared.alloc.AllocError.{AllocError}
 use Rattle.mono_model.specs.Tasks.{Tasks}
 use Rattle.mono_model.specs.Poll.{IfReady}
 use Rattle.mono_model.specs.declared.poll.Poll.{Poll}
 use Rattle.mono_model.specs.declared.poll.Poll.TheVariants.{Ready, Pending}
+use Rattle.mono_model.specs.Table.{Table}
+use Rattle.mono_sync.specs.declared.keyed_notifications.NotifiedAtError.{NotifiedAtError}
+use Rattle.mono_sync.specs.declared.keyed_notifications.NotifiedAtError.TheVariants.{Missing, Memory}
+use Rattle.mono_sync.specs.KeyedNotices.{NotifiedAtPolls, NotifiedAtGives}
 use Rattle.mono_sync.specs.Notifications.{NotifiedPolls, NotifiedGives}
 use Rattle.mono_task.specs.Owed.{Keeps, Hands}
 use Rattle.mono_sync.specs.declared.lines.Waiter.{Waiter}
+use Rattle.mono_sync.specs.declared.lines.Line.{Line}
 use Rattle.mono_sync.specs.declared.lines.Coming.TheVariants.{Waits, Free, Full}
 use Rattle.mono_sync.specs.declared.notices.Notify.{Notify}
 use Rattle.mono_sync.specs.declared.notices.Cleared.{Cleared}
 use Rattle.mono_sync.specs.declared.notices.Notifying.{Notifying}
 use Rattle.mono_sync.specs.declared.notices.Notifying.TheVariants as notifying
-use Rattle.mono_sync.specs.Lines.{Pops, holder_of, starts_below}
-use Rattle.mono_sync.specs.Notices.{on_notice, owed_by, listed_by, NotifiesOne, AwaitsFirst, AwaitsAgain, Awaits, GivesUp, GivesUpOf, PaysOne, Pays, was_alone}
+use Rattle.mono_sync.specs.Lines.{Leaves, Pops, holder_of, starts_below}
+use Rattle.mono_sync.specs.Notices.{on_notice, owed_by, listed_by, OneMore, NotifiesOne, AwaitsFirst, AwaitsAgain, Awaits, GivesUp, GivesUpOf, LeavesLine, PaysOne, Pays, had_notice, was_alone}
 use Rattle.mono_sync.proofs.WaitLemmas.{LineKept, to_places, line_same, kept_same, kept_joined, kept_tail, comes_keeps, leaves_keeps, joins_keeps, rests_keeps}
 
 of_line : (me : ℕ) (a b : Notify) → LineKept me a.line b.line → Keeps listed_by me a b
@@ -56,12 +61,31 @@ module _ (a b : Notify) (k me : ℕ) where
   gives_up_of (Some t) s = of_line me a b (leaves_keeps a.line b.line (Some k) me s.0)
   gives_up_of None s = drawn_if (was_alone a k) s
 
+-- A future leaves the line, and gives its notice on or has none.
+pub leaves_giving : (a b : Notify) (l : Line) (k me : ℕ) (c : Bool) → c ≡ had_notice a k → c ≡ true → Leaves a.line (Some k) me l → NotifiesOne (record { pending = a.pending; line = l; cleared = a.cleared }) b → LeavesLine a k me b
+leaves_giving a b l k me c is had leaves gives = (
+  subst (λ x. Leaves a.line (Some k) me x) (sym gives.1) leaves,
+  gives.2,
+  subst (λ d. MatchBool d (OneMore a.pending b.line.waiters.items b.pending) (b.pending ≡ a.pending)) (sym had ∙ is) (subst (λ (x : Line). OneMore a.pending x.waiters.items b.pending) (sym gives.1) gives.0),
+)
+
+pub leaves_quiet : (a : Notify) (l : Line) (k me : ℕ) (c : Bool) → c ≡ had_notice a k → c ≡ false → Leaves a.line (Some k) me l → LeavesLine a k me (record { pending = a.pending; line = l; cleared = a.cleared })
+leaves_quiet a l k me c is none leaves = (leaves, refl, subst (λ d. MatchBool d (OneMore a.pending l.waiters.items a.pending) (a.pending ≡ a.pending)) (sym none ∙ is) refl)
+
 module _ {C : Type 0} (part : C → Notify) (number : C → ℕ) (work : C → Tasks ⊤) where
   -- The answer of a poll is one that the future gives.
   pub polls_give : (ticket : Option ℕ) (c : C) (r : Poll (Result ⊤ AllocError)) (left : Option ℕ) (d : C) → NotifiedPolls part number work ticket c r left d → IfReady r (NotifiedGives part number work)
   polls_give ticket c (Ready (Ok done)) left d polled = record { ticket = ticket; at = c; after = d; polled = polled }
   polls_give ticket c (Ready (Err e)) left d polled = record { ticket = ticket; at = c; after = d; polled = polled }
   polls_give ticket c Pending left d polled = tt
+
+module _ {C : Type 0} (table : C → Table Notify) (number : C → ℕ) (work : C → Tasks ⊤) (key : ℕ) where
+  -- The same for a notice under a key.
+  pub polls_at_give : (ticket : Option ℕ) (c : C) (r : Poll (Result ⊤ NotifiedAtError)) (left : Option ℕ) (d : C) → NotifiedAtPolls table number work key ticket c r left d → IfReady r (NotifiedAtGives table number work key)
+  polls_at_give ticket c (Ready (Ok done)) left d polled = record { ticket = ticket; at = c; after = d; polled = polled }
+  polls_at_give ticket c (Ready (Err Missing)) left d polled = record { ticket = ticket; at = c; after = d; polled = polled }
+  polls_at_give ticket c (Ready (Err Memory)) left d polled = record { ticket = ticket; at = c; after = d; polled = polled }
+  polls_at_give ticket c Pending left d polled = tt
 
 pub gives_up_keeps : (a b : Notify) (ticket : Option ℕ) (me : ℕ) → GivesUp a ticket me b → Keeps listed_by me a b
 gives_up_keeps a b None me s = line_stays me a b (ap (λ x. x.line) s)

@@ -1,6 +1,6 @@
 -- A task waits only while all is reserved, and a future that is given up passes its place on.
-use Rattle.std.proofs.Common.{◌≡◌, ◌==◌, ◌<◌, ◌≤◌, ◌+◌, ◌-◌, ◌||◌, ◌&&◌, ℕ, zero, suc, Bool, true, false, cond, MatchBool, List, [], ◌∷◌, length, Some, None, refl, sym, ap, subst, ◌∙◌, nat_lt, nat_le, inl, inr, arith}
-use Rattle.std.proofs.lemmas.Bool.{cases_lt, lt-ltb, ltb-true, le-leb}
+use Rattle.std.proofs.Common.{◌≡◌, ◌<◌, ◌≤◌, ◌+◌, ◌-◌, ℕ, Bool, true, false, cond, MatchBool, List, ◌∷◌, length, Some, None, refl, sym, ap, subst, ◌∙◌, nat_lt, arith}
+use Rattle.std.proofs.lemmas.Bool.{lt-ltb, ltb-true}
 use Rattle.mono_sync.specs.declared.lines.Waiter.{Waiter}
 use Rattle.mono_sync.specs.declared.lines.Line.{Line}
 use Rattle.mono_sync.specs.declared.lines.Coming.{Coming}
@@ -8,19 +8,13 @@ use Rattle.mono_sync.specs.declared.lines.Coming.TheVariants.{Waits, Free, Full}
 use Rattle.mono_sync.specs.declared.semaphores.Semaphore.{Semaphore}
 use Rattle.mono_sync.specs.declared.semaphores.Acquiring.{Acquiring}
 use Rattle.mono_sync.specs.declared.semaphores.Acquiring.TheVariants as acquiring
-use Rattle.mono_sync.specs.declared.mpsc.Channel.{Channel}
-use Rattle.mono_sync.specs.declared.notices.Notify.{Notify}
-use Rattle.mono_sync.specs.declared.notices.Cleared.{Cleared}
-use Rattle.mono_sync.specs.Lines.{due, owed_of, tasks_of, holder_of, Fits, Collects, HasRoom, Comes, ComesOf, Leaves, LeavesOf, Joins, SameLine, Pops, starts_below, ticket_or, first_ticket}
+use Rattle.mono_sync.specs.Lines.{due, owed_of, tasks_of, holder_of, Fits, Collects, HasRoom, Comes, ComesOf, Leaves, LeavesOf}
 use Rattle.mono_sync.specs.Mpsc.{places}
-use Rattle.mono_sync.specs.Notices.{on_notice, most, was_alone, NotifiesOne, GivesUpOf, PaysOne}
-use Rattle.mono_sync.specs.Laws.{Rises}
 use Rattle.mono_sync.specs.Semaphores.{Acquires, GivesUp}
-use Rattle.mono_sync.specs.LineLaws.{IsCovered, AreCovered, WaitsIfReserved, WaitsIfPromised, PassesItsPermitOn, PassesItsPlaceOn, PassesItsNoticeOn, NoticeReachesAll, NoticeOutlivesNoticeToAll, UndrawnIsNoTicket}
+use Rattle.mono_sync.specs.LineLaws.{WaitsIfReserved, WaitsIfPromised, PassesItsPermitOn, PassesItsPlaceOn, UndrawnIsNoTicket}
 use Rattle.mono_sync.proofs.CoverLemmas.{run_covers, run_are}
 use Rattle.mono_sync.proofs.IdleLemmas.{no_permit, no_message}
 use Rattle.mono_sync.proofs.DueLemmas.{first_due}
-use Rattle.mono_sync.proofs.NoticeLemmas.{cleared_due}
 
 false-true : false ≡ true → ⊥
 false-true e = cc
@@ -72,82 +66,6 @@ place_passes T es a b c k me w ws old run =
           owed_first c.is_closed (length c.queue.items) c.receivers w ws (collects.0 ∙ first) (λ opened. omega (arith, collects.1, some, (all (sym gives.1.2.1 ∙ opened)).1, h))),
     )
 
-notice_first : (low n : ℕ) (w : Waiter) (ws : List Waiter) → 0 < n → (us : List ℕ) × (on_notice low n (w ∷ ws) ≡ w.task ∷ us)
-notice_first low zero w ws some = absurd (omega (arith, some))
-notice_first low (suc n) w ws some = (on_notice low (cond (nat_lt w.ticket low || w.has_left) (suc n) n) ws, refl)
-
-positive_if : (b : Bool) (n : ℕ) → (b ≡ false → 0 < n) → 0 < cond b 1 n
-positive_if true n some = omega arith
-positive_if false n some = some refl
-
-positive : (n : ℕ) → 0 < cond (n == 0) 1 n
-positive zero = omega arith
-positive (suc n) = positive_if (suc n == 0) (suc n) (λ is. omega arith)
-
-one_more : (n m : ℕ) (c : Bool) → (c ≡ false → 0 < n) → MatchBool c (m ≡ n + 1) (m ≡ n) → 0 < m
-one_more n m true some is = omega (arith, is)
-one_more n m false some is = omega (arith, is, some refl)
-
-module _ (a b : Notify) (k me : ℕ) (w : Waiter) (ws : List Waiter) (first : a.line.waiters.items ≡ w ∷ ws) where
-  some_given : (c : Bool) → nat_lt a.pending (most a) ≡ c → c ≡ false → 0 < a.pending
-  some_given c is full = elim (cases_lt a.pending (most a)) [
-    | inl less ↦ absurd (false-true (sym full ∙ sym is ∙ lt-ltb a.pending (most a) less))
-    | inr past ↦ omega (arith, past, some_most)
-  ]
-    where
-      at_least : (xs : List Waiter) → xs ≡ w ∷ ws → 0 < cond (length xs == 0) 1 (length xs)
-      at_least xs is = positive (length xs)
-
-      some_most : 0 < most a
-      some_most = at_least a.line.waiters.items first
-
-  notifies : NotifiesOne a b → (us : List ℕ) × (on_notice b.cleared.next b.pending b.line.waiters.items ≡ w.task ∷ us)
-  notifies s =
-      let more = notice_first b.cleared.next b.pending w ws (one_more a.pending b.pending (nat_lt a.pending (most a)) (some_given (nat_lt a.pending (most a)) refl) s.0) in
-      (more.0, ap (λ xs. on_notice b.cleared.next b.pending xs) (ap (λ l. l.waiters.items) s.1 ∙ first) ∙ more.1)
-
-  alone_if : (c : Bool) → c ≡ true → MatchBool c (NotifiesOne a b) (b ≡ a) → NotifiesOne a b
-  alone_if true is s = s
-  alone_if false is s = absurd (false-true is)
-
-pub notice_passes : PassesItsNoticeOn
-notice_passes a b k me w ws alone gone first gives =
-    notifies a b k me w ws first (alone_if a b k me w ws first (was_alone a k) alone (subst (λ o. GivesUpOf o a k me b) gone gives))
-
--- tickets that rise from the one after this on begin past it
-begins_past : (k next : ℕ) (ws : List Waiter) → k < next → Rises (k + 1) ws next → k < ticket_or next ws
-begins_past k next [] drawn rises = drawn
-begins_past k next (v ∷ vs) drawn rises = omega (arith, rises.0)
-
--- a ticket between these bounds is that of a future that was notified alone
-bounded_alone : (k before alone next now : ℕ) → before ≤ k → k < alone → k < next → cond (nat_lt k next) (nat_le before k && nat_lt k alone) (nat_lt k now) ≡ true
-bounded_alone k before alone next now from to drawn =
-    ap (λ c. cond c (nat_le before k && nat_lt k alone) (nat_lt k now)) (lt-ltb k next drawn) ∙ ap (λ c. c && nat_lt k alone) (le-leb before k from) ∙ lt-ltb k alone to
-
-popped_alone : (a b c : Notify) (w : Waiter) → Rises 0 (w ∷ b.line.waiters.items) a.line.next → a.cleared.next ≤ w.ticket → b.line.next ≡ a.line.next → b.cleared ≡ a.cleared
-    → c.cleared ≡ record { before = b.cleared.next; alone = first_ticket b.line; next = b.line.next } → was_alone c w.ticket ≡ true
-popped_alone a b c w rises late same kept all =
-    let drawn : w.ticket < b.line.next = subst (λ n. w.ticket < n) (sym same) rises.1 in
-    let past : w.ticket < first_ticket b.line = begins_past w.ticket b.line.next b.line.waiters.items drawn (subst (λ n. Rises (w.ticket + 1) b.line.waiters.items n) (sym same) rises.2) in
-    let from : b.cleared.next ≤ w.ticket = subst (λ (m : Cleared). m.next ≤ w.ticket) (sym kept) late in
-    ap (λ (m : Cleared). cond (nat_lt w.ticket m.next) (nat_le m.before w.ticket && nat_lt w.ticket m.alone) (nat_lt w.ticket c.line.next)) all
-    ∙ bounded_alone w.ticket b.cleared.next (first_ticket b.line) b.line.next c.line.next from past drawn
-
-starts_late : (low : ℕ) (w : Waiter) (ws xs : List Waiter) → xs ≡ w ∷ ws → starts_below low xs ≡ false → low ≤ w.ticket
-starts_late low w ws xs is not = elim (cases_lt w.ticket low) [
-  | inl less ↦ absurd (false-true (sym not ∙ ap (starts_below low) is ∙ lt-ltb w.ticket low less))
-  | inr past ↦ past
-]
-
-pays_alone : (a b : Notify) (w : Waiter) (c : Bool) → c ≡ false → MatchBool c (Pops a.line (Some w) b.line × (b.pending ≡ a.pending)) (PaysOne a (Some w) b) → Pops a.line (Some w) b.line
-pays_alone a b w true is s = absurd (false-true (sym is))
-pays_alone a b w false is s = s.1
-
-pub notice_outlives : NoticeOutlivesNoticeToAll
-notice_outlives a b c w rises starts pays all =
-    let pops = pays_alone a b w (starts_below a.cleared.next a.line.waiters.items) starts pays.0 in
-    popped_alone a b c w (subst (λ xs. Rises 0 xs a.line.next) pops.0 rises) (starts_late a.cleared.next w b.line.waiters.items a.line.waiters.items pops.0 starts) pops.2 pays.1 all.2
-
 -- a number that was never drawn
 module _ (a b : Line) (k me : ℕ) (past : a.next ≤ k) (gone : holder_of a.waiters.items k ≡ None) where
   comes_if : (room : ℕ) (r : Coming) (c : Bool) → nat_lt k a.next ≡ c → MatchBool c (Fits b.granted room r × Collects a b) (HasRoom b room r × (b ≡ a)) → HasRoom b room r × (b ≡ a)
@@ -176,13 +94,3 @@ gives_up_undrawn a b k me past gone s = λ i. record { available = s.0 i; is_clo
 
 pub undrawn : UndrawnIsNoTicket
 undrawn a b k me past gone = (acquires_undrawn a b k me past gone, gives_up_undrawn a b k me past gone)
-
--- if each ticket was drawn before the notice to all, each task is owed it
-all_due : (low next n : ℕ) (ws : List Waiter) → Rises low ws next → on_notice next n ws ≡ tasks_of ws
-all_due low next n [] rises = refl
-all_due low next n (w ∷ ws) rises = cleared_due next n w ws (lt-ltb w.ticket next rises.1) ∙ ap (λ ts. w.task ∷ ts) (all_due (w.ticket + 1) next n ws rises.2)
-
-pub notice_reaches : NoticeReachesAll
-notice_reaches a b rises all =
-    ap (λ (m : Cleared). on_notice m.next b.pending b.line.waiters.items) all.2 ∙ ap (λ (l : Line). on_notice a.line.next b.pending l.waiters.items) all.1
-    ∙ all_due 0 a.line.next b.pending a.line.waiters.items rises

@@ -88,7 +88,7 @@ asked_if : (a b : Notify) (k me : ℕ) (x : Notifying) (c : Bool) → MatchBool 
 asked_if a b k me x true s r = again_step a b k me x s r
 asked_if a b k me x false s r = first_step a b me x s r
 
-notice_step : (e : notices.Event) (a b : Notify) → Rising a.line → notices.Step a e b → Rising b.line
+pub notice_step : (e : notices.Event) (a b : Notify) → Rising a.line → notices.Step a e b → Rising b.line
 notice_step notices.one a b r s = kept_line a.line b.line s.1 r
 notice_step notices.all a b r s = kept_line a.line b.line s.1 r
 notice_step (notices.asked (Some k) me x) a b r s = asked_if a b k me x (nat_lt k a.line.next) s r

@@ -15,6 +15,8 @@ use Rattle.mono_sync.specs.SemaphoreRuns as semaphores
 use Rattle.mono_sync.specs.Mpsc as channel
 use Rattle.mono_sync.specs.MpscRuns as channels
 use Rattle.mono_sync.specs.Notices as notice
+use Rattle.mono_sync.specs.NoticeRuns as notices
+use Rattle.mono_sync.specs.Runs.{Run}
 
 -- A permit is taken at once, by a try or by a future without a ticket, only if each task that waits is owed one.
 abbrev pub NoTaskIsOvertaken : Type 0
@@ -59,19 +61,33 @@ PassesItsPlaceOn T = (es : List (channels.Event T)) (a b c : Channel T) (k me : 
     → (k < b.senders.next → holder_of b.senders.waiters.items k ≡ None → 0 < b.senders.granted → b.senders.waiters.items ≡ w ∷ ws → channel.GivesUpSend b (Some k) me c → (us : List ℕ) × (channel.owed_senders c ≡ w.task ∷ us))
     × (k < b.receivers.next → holder_of b.receivers.waiters.items k ≡ None → 0 < b.receivers.granted → b.receivers.waiters.items ≡ w ∷ ws → channel.GivesUpReceive b (Some k) me c → (us : List ℕ) × (channel.owed_receivers c ≡ w.task ∷ us))
 
--- If a future that was notified alone is given up, the first task that waits is owed its notice.
+-- A future has a notice to one: it left the line notified alone, or it has one in the line or out of it.
+abbrev pub IsNotified : Notify → ℕ → Type 0
+IsNotified a k = ((holder_of a.line.waiters.items k ≡ None) × (notice.was_alone a k ≡ true)) ⊎ (Rises 0 a.line.waiters.items a.line.next × (notice.has_notice a k ≡ true))
+
+-- If a future that has a notice to one is given up, also one that was not woken yet, the first task that waits is owed a
+-- notice.
 abbrev pub PassesItsNoticeOn : Type 0
-PassesItsNoticeOn = (a b : Notify) (k me : ℕ) (w : Waiter) (ws : List Waiter) → notice.was_alone a k ≡ true → holder_of a.line.waiters.items k ≡ None → a.line.waiters.items ≡ w ∷ ws
-    → notice.GivesUp a (Some k) me b → (us : List ℕ) × (notice.owed_by b ≡ w.task ∷ us)
+PassesItsNoticeOn = (a b : Notify) (k me : ℕ) (w : Waiter) (ws : List Waiter) → IsNotified a k → notice.GivesUp a (Some k) me b → b.line.waiters.items ≡ w ∷ ws
+    → (us : List ℕ) × (notice.owed_by b ≡ w.task ∷ us)
 
 -- Each task that waits at a notice to all is owed it, also one whose future was enabled and not polled.
 abbrev pub NoticeReachesAll : Type 0
 NoticeReachesAll = (a b : Notify) → Rises 0 a.line.waiters.items a.line.next → notice.NotifiesAll a b → notice.owed_by b ≡ notice.waiting_in a
 
--- A future that was notified alone still passes its notice on after a notice to all.
+-- Tickets rise along the line of a notice, and the last two notices to all came one after the other, before the next ticket.
+abbrev pub IsOrdered : Notify → Type 0
+IsOrdered a = (a.cleared.before ≤ a.cleared.next) × (a.cleared.next ≤ a.line.next) × Rises 0 a.line.waiters.items a.line.next
+
+-- Whatever is called, a future that has a notice to one keeps it, woken or not, if at most one notice to all came since its
+-- first poll.
 abbrev pub NoticeOutlivesNoticeToAll : Type 0
-NoticeOutlivesNoticeToAll = (a b c : Notify) (w : Waiter) → Rises 0 a.line.waiters.items a.line.next → starts_below a.cleared.next a.line.waiters.items ≡ false → notice.Pays a (Some w) b
-    → notice.NotifiesAll b c → notice.was_alone c w.ticket ≡ true
+NoticeOutlivesNoticeToAll = (es : List notices.Event) (a b : Notify) → IsOrdered a → Run notices.Step a es b → IsOrdered b × ((k : ℕ) → notice.has_notice a k ≡ true → b.cleared.before ≤ k → notice.has_notice b k ≡ true)
+
+-- A task that is woken for a notice to one has it.
+abbrev pub WokenHasNotice : Type 0
+WokenHasNotice = (a b : Notify) (w : Waiter) → Rises 0 a.line.waiters.items a.line.next → starts_below a.cleared.next a.line.waiters.items ≡ false → notice.Pays a (Some w) b
+    → (b.cleared.next ≤ w.ticket) × (notice.has_notice b w.ticket ≡ true)
 
 -- A number that was never drawn and with which no task waits is no ticket: a future asks with it as one without a ticket, and
 -- changes nothing if it is given up.

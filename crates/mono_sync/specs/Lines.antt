@@ -121,14 +121,6 @@ abbrev pub starts_below : ℕ → List Waiter → Bool
 starts_below low [] = false
 starts_below low (w ∷ ws) = nat_lt w.ticket low
 
--- The ticket of the first task, and this one if no task waits.
-abbrev pub ticket_or : ℕ → List Waiter → ℕ
-ticket_or next [] = next
-ticket_or next (w ∷ ws) = w.ticket
-
-abbrev pub first_ticket : Line → ℕ
-first_ticket a = ticket_or a.next a.waiters.items
-
 -- The first tasks, as long as they drew their tickets before this one was the next.
 abbrev pub below : ℕ → List Waiter → List ℕ
 below low [] = []

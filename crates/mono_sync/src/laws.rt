@@ -1,7 +1,7 @@
 //! Laws that hold over any calls of channels, of a semaphore, of a notice and of a watched value.
 ghost use Rattle.mono_sync.specs.Laws.{PermitsAreKept, FirstComeFirstServed, ServedInOrder, InOrder, NothingAfterClose, StaysBounded, ReceivedOnce};
 ghost use Rattle.mono_sync.specs.WaitLaws.{PendingIsListed, PendingSenderIsListed, PendingReceiverIsListed, PendingDeliveryIsListed, PendingNoticeIsListed, PendingChangeIsListed, TakesOutItsOwn, NoPermitLiesIdle, NoMessageLiesIdle, NoDeliveryLiesIdle, NoNoticeLiesIdle, NoChangeLiesIdle};
-ghost use Rattle.mono_sync.specs.LineLaws.{NoTaskIsOvertaken, NoSenderIsOvertaken, WaitsIfReserved, WaitsIfPromised, PassesItsPermitOn, PassesItsPlaceOn, PassesItsNoticeOn, NoticeReachesAll, NoticeOutlivesNoticeToAll, UndrawnIsNoTicket};
+ghost use Rattle.mono_sync.specs.LineLaws.{NoTaskIsOvertaken, NoSenderIsOvertaken, WaitsIfReserved, WaitsIfPromised, PassesItsPermitOn, PassesItsPlaceOn, PassesItsNoticeOn, NoticeReachesAll, NoticeOutlivesNoticeToAll, WokenHasNotice, UndrawnIsNoTicket};
 
 /// Shows that the given permits are never more than those free at the start and those put back.
 pub fn permits_are_kept()
@@ -128,7 +128,7 @@ pub fn a_place_is_passed_on<T>()
     ensures { PassesItsPlaceOn T }
 {}
 
-/// Shows that if a future that was notified alone is given up, its notice is owed to the first task that waits.
+/// Shows that if a future that has a notice to one is given up, the first task that waits is owed a notice.
 pub fn a_notice_is_passed_on()
     ensures { PassesItsNoticeOn }
 {}
@@ -138,9 +138,15 @@ pub fn a_notice_to_all_reaches_all()
     ensures { NoticeReachesAll }
 {}
 
-/// Shows that a future that was notified alone passes its notice on after a notice to all, too.
+/// Shows that whatever is called, a future that has a notice to one keeps it, if at most one notice to all came since its
+/// first poll.
 pub fn a_notice_outlives_a_notice_to_all()
     ensures { NoticeOutlivesNoticeToAll }
+{}
+
+/// Shows that a task that is woken for a notice to one has it.
+pub fn a_woken_task_has_its_notice()
+    ensures { WokenHasNotice }
 {}
 
 /// Shows that a number that was never drawn takes nobody's grant.

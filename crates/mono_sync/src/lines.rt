@@ -1,7 +1,7 @@
 // The tasks that wait, in the order of their arrival.
 ghost use Rattle.std.specs.Prelude.{◌≡◌, ◌<◌, ◌≤◌, ◌+◌, [], length, MatchBool, not};
 ghost use Rattle.mono_sync.specs.declared.lines.Coming.TheVariants.{Free, Full};
-ghost use Rattle.mono_sync.specs.Lines.{holder_of, place_of, Comes, Leaves, Marks, Joins, Pops, Serves, Takes, TakesBelow, starts_below, first_ticket, is_held};
+ghost use Rattle.mono_sync.specs.Lines.{holder_of, place_of, Comes, Leaves, Marks, Joins, Pops, Serves, Takes, TakesBelow, starts_below, is_held};
 ghost use Rattle.std.specs.List.{list_any};
 
 use std::alloc::{AllocError, Global};
@@ -230,16 +230,6 @@ impl Line {
             return false;
         }
         self.waiters[0].ticket < low
-    }
-
-    /// Returns the ticket of the first task, and the next one if no task waits.
-    pub fn first_ticket(&self) -> u64
-        ensures { result ≡ first_ticket self.now }
-    {
-        if self.is_empty() {
-            return self.next;
-        }
-        self.waiters[0].ticket
     }
 
     /// Removes the first task from the line, if it drew its ticket before this one was the next, or the value was closed.

@@ -2,7 +2,7 @@
 ghost use Rattle.std.specs.Prelude.{◌≡◌, [], ℕ};
 ghost use Rattle.mono_sync.specs.Runs.{Leads, leads_itself, leads_on};
 ghost use Rattle.mono_sync.specs.NoticeRuns.{Step};
-ghost use Rattle.mono_sync.specs.Notices.{owed_by, listed_by, waiting_in, most, NotifiesOne, NotifiesAll, AwaitsFirst, AwaitsAgain, Awaits, GivesUp, Pays, PaysOne, was_alone};
+ghost use Rattle.mono_sync.specs.Notices.{owed_by, listed_by, waiting_in, alone_to, left_of, NotifiesOne, NotifiesAll, AwaitsFirst, AwaitsAgain, Awaits, GivesUp, LeavesLine, Pays, PaysOne, had_notice, was_alone};
 ghost use Rattle.mono_sync.specs.Lines.{has_task};
 ghost use Rattle.mono_sync.specs.Listed.{notice_some};
 ghost use Rattle.mono_task.specs.Owed.{Keeps};
@@ -13,10 +13,11 @@ use std::alloc::Global;
 
 /// A notice to one or to all of the tasks that wait for it, first come, first served.
 ///
-/// A notice to one is kept for the next future that asks if no task waits. At most one is kept.
+/// A notice to one is kept for the next future that asks if each task that waits has one. At most one is kept once no task
+/// waits.
 #[derive(Drop)]
 pub struct Notify {
-    // How many notices to one no task has got. If no task waits, one of them is kept, and no more.
+    // How many notices to one no task was woken for. If no task waits, one of them is kept, and no more.
     pub(crate) pending: usize,
     pub(crate) line: Line,
     pub(crate) cleared: Cleared,
@@ -27,7 +28,7 @@ pub struct Notify {
 pub struct Cleared {
     // Tickets below this one were drawn before the notice to all before it.
     pub(crate) before: u64,
-    // Of the tickets drawn since, those below this one had left the line: each was notified alone.
+    // Of the tickets drawn since, those below this one had left the line, or had a notice to one: each was notified alone.
     pub(crate) alone: u64,
     // Tickets below this one were drawn before the last notice to all.
     pub(crate) next: u64,
@@ -91,27 +92,17 @@ impl Notify {
         }
     }
 
-    // Returns how many notices there may be.
-    fn most(&self) -> usize
-        ensures { result ≡ most self.now }
-    {
-        let waiting = self.line.waiters.len();
-        if waiting == 0 {
-            return 1;
-        }
-        waiting
-    }
-
-    // Gives one notice more, if there may be one more.
+    // Gives one notice more, unless one is kept beside one for each task that waits.
     fn give(&mut self)
         ensures { NotifiesOne self.old self.new }
     {
-        if self.pending < self.most() {
+        if self.pending <= self.line.waiters.len() {
             self.pending += 1;
         }
     }
 
-    /// Notifies the first task that waits and has no notice: it is to be woken. If no task waits, the notice is kept.
+    /// Notifies the first task that waits and has no notice: it is to be woken. If each task that waits has one, the notice is
+    /// kept.
     pub fn notify_one(&mut self)
         ensures answer { NotifiesOne self.old self.new }
         ensures keeps { (me : ℕ) → Keeps listed_by me self.old self.new }
@@ -119,20 +110,37 @@ impl Notify {
         self.give()
     }
 
-    /// Notifies all tasks that wait: they are to be woken. No notice is kept for a future that asks later.
+    // Hands the notices to one out along the line, one to each task that waits since the last notice to all. Returns the
+    // ticket of the first task that gets none, or the next one if there is none, and how many notices are left.
+    fn shares(&self) -> (u64, usize)
+        ensures to { result.0 ≡ alone_to self.now.cleared.next self.now.line.next self.now.pending self.now.line.waiters.items }
+        ensures left { result.1 ≡ left_of self.now.cleared.next self.now.pending self.now.line.waiters.items }
+    {
+        let mut left = self.pending;
+        for waiter in self.line.waiters.iter() {
+            if left == 0 {
+                return (waiter.ticket, 0);
+            }
+            if waiter.ticket >= self.cleared.next && !waiter.has_left {
+                left -= 1;
+            }
+        }
+        (self.line.next, left)
+    }
+
+    /// Notifies all tasks that wait: they are to be woken. A task that has a notice to one keeps it, to pass it on if its
+    /// future is given up. No notice to all is kept for a future that asks later.
     pub fn notify_waiters(&mut self)
         ensures answer { NotifiesAll self.old self.new }
         ensures keeps { (me : ℕ) → Keeps listed_by me self.old self.new }
     {
+        let (alone, left) = self.shares();
         self.cleared = Cleared {
             before: self.cleared.next,
-            alone: self.line.first_ticket(),
+            alone,
             next: self.line.next,
         };
-        if self.line.waiters.len() == 0 {
-            return;
-        }
-        self.pending = 0;
+        self.pending = left;
     }
 
     // Answers a future of this task that drew no ticket.
@@ -201,13 +209,30 @@ impl Notify {
         ticket < self.line.next
     }
 
+    // Returns whether a future with this ticket had a notice to one at the last notice to all.
+    fn had_notice(&self, ticket: u64) -> bool
+        ensures { result ≡ had_notice self.now ticket }
+    {
+        ticket < self.cleared.next && self.cleared.before <= ticket && ticket < self.cleared.alone
+    }
+
+    // Takes a future out of the line, and passes on a notice to one that it had at the last notice to all.
+    fn leave(&mut self, ticket: u64, me: u64)
+        ensures { LeavesLine self.old ticket me self.new }
+    {
+        self.line.leave(Some(ticket), me);
+        if self.had_notice(ticket) {
+            self.give();
+        }
+    }
+
     // Takes a future out of the line, or passes its notice on.
     fn drop_out(&mut self, ticket: Option<u64>, me: u64)
         ensures { GivesUp self.old ticket me self.new }
     {
         if let Some(ticket) = ticket {
             if let Some(_) = self.line.holder_of(ticket) {
-                self.line.leave(Some(ticket), me);
+                self.leave(ticket, me);
                 return;
             }
             if self.was_alone(ticket) {
@@ -217,8 +242,8 @@ impl Notify {
     }
 
     /// Takes a future out of the line, in a turn of this task. If it was notified by `notify_one`, the notice goes to the
-    /// first task that waits, or is kept. A future that waited at the last `notify_waiters` passes nothing on, and neither
-    /// does one that waited first before the `notify_waiters` before that.
+    /// first task that waits and has none, or is kept. If two `notify_waiters` came since its first poll, it passes nothing
+    /// on.
     pub fn give_up(&mut self, ticket: Option<u64>, me: u64)
         ensures answer { GivesUp self.old ticket me self.new }
         ensures keeps { Keeps listed_by me self.old self.new }

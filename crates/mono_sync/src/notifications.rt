@@ -122,8 +122,8 @@ impl<W: Holds<Notify>> Notified<W> {
     }
 }
 
-/// Notifies the first task that waits and has no notice, which the runtime wakes after the turn. If no task waits, the
-/// notice is kept.
+/// Notifies the first task that waits and has no notice, which the runtime wakes after the turn. If each task that waits has
+/// one, the notice is kept.
 pub fn notify_one<W: Holds<Notify>, C: SharedContext<W>>(cx: &mut C)
     ensures answer { NotifiesOne (W.part (C.shared cx.old)) (W.part (C.shared cx.new)) }
     ensures work { C.work cx.new ≡ C.work cx.old }

@@ -16,7 +16,7 @@ pub struct NotifyOneAtCall {
     pub(crate) key: u64,
 }
 
-/// Notifies the first task that waits for the notice with this key and has none. If no task waits, the notice is kept.
+/// Notifies the first task that waits for the notice with this key and has none. If each has one, the notice is kept.
 pub fn notify_one_at<W>(key: u64) -> AtOnce<W, NotifyOneAtCall>
     ensures act { result.act ≡ Some (record { key = key }) }
 {
