@@ -1,7 +1,7 @@
 // The calls of a task on one of many notices, each under a key of its own.
 ghost use Rattle.std.specs.Prelude.{◌≡◌, true, false, ℕ};
 ghost use Rattle.std.specs.declared.option.Option.TheVariants.{None};
-ghost use Rattle.mono_model.specs.Poll.{OnReady};
+ghost use Rattle.mono_model.specs.Poll.{OnReady, OnPending};
 ghost use Rattle.mono_sync.specs.Notices.{listed_by, owed_by, waiting_in};
 ghost use Rattle.mono_sync.specs.NoticeRuns.{Step};
 ghost use Rattle.mono_sync.specs.Runs.{Leads};
@@ -97,6 +97,42 @@ fn ask<W: Holds<Many<Notify>>, C: SharedContext<W>>(
     ask_part::<W>(cx.shared_mut(), key, ticket, me)
 }
 
+impl<W: Holds<Many<Notify>>> NotifiedAt<W> {
+    /// Puts the future into the line without a poll, in a turn of the task that polls it later. So a notice that comes
+    /// before its first poll serves it, to one or to all. It has the answer and the effect of a poll (`polled`).
+    pub fn enable<C: SharedContext<W>>(&mut self, cx: &mut C) -> Poll<Result<(), NotifiedAtError>>
+        requires unspent { self.old.has_answered ≡ false }
+        ensures polled { NotifiedAtPolls (λ x. W.part (C.shared x)) C.number C.work self.old.key self.old.ticket cx.old result self.new.ticket cx.new }
+        ensures key { self.new.key ≡ self.old.key }
+        ensures ended { OnReady result ((self.new.ticket ≡ None) × (self.new.has_answered ≡ true)) }
+        ensures again { OnPending result (self.new.has_answered ≡ false) }
+        ensures reached { C.reaches cx.old cx.new }
+    {
+        match ask::<W, C>(cx, self.key, self.ticket) {
+            Some(Notifying::Waits) => Poll::Pending,
+            Some(Notifying::Joined(ticket)) => {
+                self.ticket = Some(ticket);
+                Poll::Pending
+            }
+            Some(Notifying::Notified) => {
+                self.ticket = None;
+                self.has_answered = true;
+                Poll::Ready(Ok(()))
+            }
+            Some(Notifying::Memory) => {
+                self.ticket = None;
+                self.has_answered = true;
+                Poll::Ready(Err(NotifiedAtError::Memory))
+            }
+            None => {
+                self.ticket = None;
+                self.has_answered = true;
+                Poll::Ready(Err(NotifiedAtError::Missing))
+            }
+        }
+    }
+}
+
 // Takes a future out of the line of the notice with this key.
 fn leave_table(notices: &mut Many<Notify>, key: u64, ticket: Option<u64>, me: u64)
     ensures answer { GivesUpAt key notices.old ticket me notices.new }
@@ -149,8 +185,8 @@ pub(crate) fn one_part<W: Holds<Many<Notify>>>(whole: &mut W, key: u64)
     one_table(whole.part_mut(), key)
 }
 
-/// Notifies the first task that waits for the notice with this key and has none, which the runtime wakes after the turn. If no
-/// task waits, the notice is kept. If no notice has the key, nothing is done.
+/// Notifies the first task that waits for the notice with this key and has none, which the runtime wakes after the turn. If each
+/// has one, the notice is kept. If no notice has the key, nothing is done.
 pub fn notify_one_at<W: Holds<Many<Notify>>, C: SharedContext<W>>(cx: &mut C, key: u64)
     ensures answer { NotifiesOneAt key (W.part (C.shared cx.old)) (W.part (C.shared cx.new)) }
     ensures work { C.work cx.new ≡ C.work cx.old }
@@ -213,28 +249,7 @@ impl<W: Holds<Many<Notify>>, C: SharedContext<W>> TaskFuture<C> for NotifiedAt<W
         _alloc: Global,
         cx: &mut C,
     ) -> Poll<Result<(), NotifiedAtError>> {
-        match ask::<W, C>(cx, self.key, self.ticket) {
-            Some(Notifying::Waits) => Poll::Pending,
-            Some(Notifying::Joined(ticket)) => {
-                self.ticket = Some(ticket);
-                Poll::Pending
-            }
-            Some(Notifying::Notified) => {
-                self.ticket = None;
-                self.has_answered = true;
-                Poll::Ready(Ok(()))
-            }
-            Some(Notifying::Memory) => {
-                self.ticket = None;
-                self.has_answered = true;
-                Poll::Ready(Err(NotifiedAtError::Memory))
-            }
-            None => {
-                self.ticket = None;
-                self.has_answered = true;
-                Poll::Ready(Err(NotifiedAtError::Missing))
-            }
-        }
+        self.enable(cx)
     }
 
     fn cancel(self, cx: &mut C) {

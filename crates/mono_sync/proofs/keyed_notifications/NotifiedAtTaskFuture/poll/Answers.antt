@@ -1,23 +1,7 @@
-use Rattle.std.specs.Prelude.{ℕ, Option, Some, None}
-use Rattle.std.proofs.Common.{refl, inl, inr, subst}
-use Rattle.mono_sync.specs.declared.notices.Notifying.TheVariants as notifying
-use Rattle.mono_sync.specs.KeyedNotices.{AwaitsAt}
+use Rattle.mono_sync.proofs.NoticeLemmas.{polls_at_give}
 use Rattle.mono_sync.proofs.keyed_notifications.NotifiedAtTaskFuture.poll.Goals as goal
 
-pub returns-in-Some-Notified-clause-polled : goal.returns-in-Some-Notified-clause-polled
-returns-in-Some-Notified-clause-polled g c = ((subst (λ r. AwaitsAt c.args.self.now.key (g.W.Holds.part (g.C.SharedContext.shared c.args.cx.now)) c.args.self.now.ticket (g.C.Context.number c.args.cx.now) (Some r) (g.W.Holds.part (g.C.SharedContext.shared c.ask.new.cx))) c.in-Some-Notified.field-0-is c.in-Some-Notified.ensures.answer, c.in-Some-Notified.ensures.work), refl, (refl, refl))
-
-pub returns-in-Some-Notified-clause-given : goal.returns-in-Some-Notified-clause-given
-returns-in-Some-Notified-clause-given g c = record { ticket = c.args.self.now.ticket; at = c.args.cx.now; after = c.ask.new.cx; polled = (subst (λ r. AwaitsAt c.args.self.now.key (g.W.Holds.part (g.C.SharedContext.shared c.args.cx.now)) c.args.self.now.ticket (g.C.Context.number c.args.cx.now) (Some r) (g.W.Holds.part (g.C.SharedContext.shared c.ask.new.cx))) c.in-Some-Notified.field-0-is c.in-Some-Notified.ensures.answer, c.in-Some-Notified.ensures.work) }
-
-pub returns-in-Some-Memory-clause-polled : goal.returns-in-Some-Memory-clause-polled
-returns-in-Some-Memory-clause-polled g c = ((subst (λ r. AwaitsAt c.args.self.now.key (g.W.Holds.part (g.C.SharedContext.shared c.args.cx.now)) c.args.self.now.ticket (g.C.Context.number c.args.cx.now) (Some r) (g.W.Holds.part (g.C.SharedContext.shared c.ask.new.cx))) c.in-Some-Memory.field-0-is c.in-Some-Memory.ensures.answer, c.in-Some-Memory.ensures.work), refl, (refl, refl))
-
-pub returns-in-Some-Memory-clause-given : goal.returns-in-Some-Memory-clause-given
-returns-in-Some-Memory-clause-given g c = record { ticket = c.args.self.now.ticket; at = c.args.cx.now; after = c.ask.new.cx; polled = (subst (λ r. AwaitsAt c.args.self.now.key (g.W.Holds.part (g.C.SharedContext.shared c.args.cx.now)) c.args.self.now.ticket (g.C.Context.number c.args.cx.now) (Some r) (g.W.Holds.part (g.C.SharedContext.shared c.ask.new.cx))) c.in-Some-Memory.field-0-is c.in-Some-Memory.ensures.answer, c.in-Some-Memory.ensures.work) }
-
-pub returns-in-Some-Waits-clause-polled : goal.returns-in-Some-Waits-clause-polled
-returns-in-Some-Waits-clause-polled g c = (inl (refl, subst (λ r. AwaitsAt c.args.self.now.key (g.W.Holds.part (g.C.SharedContext.shared c.args.cx.now)) c.args.self.now.ticket (g.C.Context.number c.args.cx.now) (Some r) (g.W.Holds.part (g.C.SharedContext.shared c.ask.new.cx))) c.in-Some-Waits.field-0-is c.in-Some-Waits.ensures.answer, c.in-Some-Waits.ensures.work), refl, tt)
-
-pub returns-in-Some-Joined-clause-polled : goal.returns-in-Some-Joined-clause-polled
-returns-in-Some-Joined-clause-polled g c = (inr (c.in-Some-Joined.ticket, (refl, subst (λ r. AwaitsAt c.args.self.now.key (g.W.Holds.part (g.C.SharedContext.shared c.args.cx.now)) c.args.self.now.ticket (g.C.Context.number c.args.cx.now) (Some r) (g.W.Holds.part (g.C.SharedContext.shared c.ask.new.cx))) c.in-Some-Joined.field-0-is c.in-Some-Joined.ensures.answer, c.in-Some-Joined.ensures.work)), refl, tt)
+pub returns-clause-given : goal.returns-clause-given
+returns-clause-given g c =
+    polls_at_give (λ x. g.W.Holds.part (g.C.SharedContext.shared x)) g.C.Context.number g.C.Context.work c.args.self.now.key c.args.self.now.ticket c.args.cx.now c.enable.result c.enable.new.self.ticket c.enable.new.cx
+    c.enable.ensures.polled
