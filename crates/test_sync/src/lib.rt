@@ -9,6 +9,8 @@ mod channels;
 #[cfg(test)]
 mod forms;
 #[cfg(test)]
+mod kept_notices;
+#[cfg(test)]
 mod locks;
 #[cfg(test)]
 mod many;

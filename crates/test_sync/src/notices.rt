@@ -41,7 +41,7 @@ fn first_come_first_served(rt: HostRuntime) {
     assert!(rt; has(&mut notify, None, 3));
 }
 
-// Each notice to one in the same turn goes to another task.
+// Each notice to one in the same turn goes to another task. One more is kept.
 #[test]
 fn two_at_once(rt: HostRuntime) {
     let mut notify = Notify::new(rt.alloc());
@@ -56,6 +56,7 @@ fn two_at_once(rt: HostRuntime) {
     );
     assert_eq!(rt; notify.next_owed(), None);
     assert!(rt; has(&mut notify, one, 1) && has(&mut notify, two, 2));
+    assert!(rt; has(&mut notify, None, 3));
     assert_eq!(rt; drawn(&mut notify, 3), Some(2));
 }
 

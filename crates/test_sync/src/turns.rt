@@ -6,6 +6,7 @@ ghost use Rattle.mono_task.specs.Owed.{Keeps};
 ghost use Rattle.test_sync.specs.Turns.{keeps_on};
 
 mod by_key;
+mod enabled;
 mod kinds;
 mod refused;
 mod singles;
