@@ -10,7 +10,7 @@ use lib.ListN.{get_elem?}
 use Rattle.crossbeam_queue.specs.Fifo.{Pushes, Pops, Forks, Merges, Learns, Held}
 use Rattle.crossbeam_queue.proofs.Lists.{at_set, set_else}
 use Rattle.mono_channel.specs.declared.rule.Hand.{Hand}
-use Rattle.mono_channel.specs.Queues.{IsQueued}
+use Rattle.mono_channel.specs.Queues.{IsQueued, HeldBelow}
 use Rattle.mono_channel.specs.Delivery.{of, IsNew, HasAll, AreBelow, AreOf, Arrived, Fit, FitsSender, FitsReceiver, FitsIdle, Delivers, Share, total, all_shares, shares_kept, shares_given, hand, sender, spent}
 
 pub same_is : (n : ℕ) → (n == n) ≡ true
@@ -296,3 +296,8 @@ module _ {T : Type 0} where
   -- a sender knows that what it sent is among the messages sent, of which the queued ones are the last
   pub knows : (port : ℕ) (v : Hand T) → v.sends ≡ true → Learns Delivers port v (λ items. IsQueued v.sent items)
   knows port v may items views h at = (port, h.1, h.2, h.4, ((h.8 port v at).0 may).0)
+
+  -- a push to a queue with so many places finds fewer messages queued
+  pub sends_into : (n places port : ℕ) (v : Hand T) (x : T) → n ≡ places → v.sends ≡ true → Pushes Delivers n port v x (λ w. (w ≡ sender v.shares (v.sent ++ x ∷ [])) × HeldBelow places (IsQueued v.sent))
+  sends_into n places port v x is may items views room h at =
+      let sent = sends n port v x may items views room h at in (sent.0, sent.1, (sent.2, (items, subst (λ k. length items < k) is room, knows port v may items views h at)))

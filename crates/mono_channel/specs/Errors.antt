@@ -1,9 +1,16 @@
 -- The message that comes back.
 use Rattle.std.specs.Prelude.{⊤, Bool, true, false, Result, Ok, Err}
+use Rattle.mono_channel.specs.declared.errors.TryRecvError.{TryRecvError}
+use Rattle.mono_channel.specs.declared.errors.TryRecvError.TheVariants.{Empty, Disconnected}
 use Rattle.mono_channel.specs.declared.errors.TrySendError.{TrySendError}
 use Rattle.mono_channel.specs.declared.errors.TrySendError.TheVariants.{Full, Closed}
 use Rattle.mono_channel.specs.declared.errors.SendError.{SendError}
 use Rattle.mono_channel.specs.declared.errors.SendError.TheVariants as send
+
+-- whether a receive was refused since the channel was closed
+abbrev pub is_disconnected : TryRecvError → Bool
+is_disconnected Empty = false
+is_disconnected Disconnected = true
 
 module _ {T : Type 0} where
   -- the message that was not sent at once

@@ -1,5 +1,5 @@
 -- What is queued, beside what one sender has sent.
-use Rattle.std.specs.Prelude.{◌≡◌, ℕ, List, ◌++◌, map}
+use Rattle.std.specs.Prelude.{◌≡◌, ◌<◌, ℕ, List, ◌++◌, map, length}
 use Rattle.crossbeam_queue.specs.Fifo.{Held}
 use Rattle.mono_channel.specs.Delivery.{of}
 use Rattle.mono_channel.specs.Ends.{Ends, sent_by, bound_of}
@@ -12,3 +12,11 @@ IsQueued {T} sent items = (number : ℕ) × (received : List T) × (all : List (
 -- At one moment as many messages were queued as the channel has places.
 abbrev pub WasFull : {T : Type 0} → Ends T → Type 0
 WasFull s = Held (bound_of s) (IsQueued (sent_by s))
+
+-- At one moment of the call fewer than n messages were queued, and this was learned of them.
+abbrev pub HeldBelow : {T : Type 0} → ℕ → (List T → Type 0) → Type 0
+HeldBelow {T} n fact = (items : List T) × (length items < n) × fact items
+
+-- At one moment fewer messages were queued than the channel has places.
+abbrev pub HadRoom : {T : Type 0} → Ends T → Type 0
+HadRoom s = HeldBelow (bound_of s) (IsQueued (sent_by s))

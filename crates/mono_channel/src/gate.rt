@@ -1,20 +1,21 @@
 // What the ends of a channel share under its lock: who waits, and whether the channel is closed.
-ghost use Rattle.std.specs.Prelude.{◌≡◌, ◌≢◌, ◌+◌, ◌-◌, ◌<◌, ◌≤◌, ◌^◌, ◌⊎◌, true, false, [], ◌++◌, ◌∷◌, Some, None, Err, IfOk, IfErr, OnSome, MatchResult, MatchOption};
+ghost use Rattle.std.specs.Prelude.{◌≡◌, ◌≢◌, ◌+◌, ◌-◌, ◌<◌, ◌≤◌, ◌^◌, true, false, [], ◌++◌, ◌∷◌, Some, None, Err, IfOk, IfErr, OnOk, OnSome, MatchResult, MatchOption};
 ghost use Rattle.crossbeam_queue.specs.Passes.{view, IsPassOf, IsSamePass, ruled_capacity};
 ghost use Rattle.crossbeam_queue.specs.Fifo.{Held};
-ghost use Rattle.mono_channel.specs.Queues.{IsQueued};
+ghost use Rattle.mono_channel.specs.Queues.{IsQueued, HeldBelow};
 ghost use Rattle.mono_channel.specs.Delivery.{Arrived, hand, sender};
-ghost use Rattle.mono_channel.specs.Errors.{message_of, is_shut, OnFull};
+ghost use Rattle.mono_channel.specs.Errors.{message_of, is_shut, is_disconnected, OnFull};
 ghost use Rattle.mono_channel.specs.Gates.{is_over};
 ghost use Rattle.mono_channel.specs.Seats.{Seats};
-ghost use Rattle.mono_channel.specs.declared.errors.TryRecvError.TheVariants.{Empty, Disconnected};
+ghost use Rattle.mono_channel.specs.declared.errors.TryRecvError.TheVariants.{Empty};
 
 use crate::errors::{TryRecvError, TrySendError};
-use crate::rule::{End, Queue, Received, Sent};
+use crate::rule::{End, Places, Queue, Received, Sent};
 use crate::waiters::Waiter;
 use mono_inbox::Unpark;
 use mono_model::Host;
 use std::alloc::{AllocError, Global};
+use std::marker::Brand;
 use std::mem;
 
 /// Who waits at a channel, and whether it is closed.
@@ -137,15 +138,32 @@ pub(crate) fn put<T: Drop, U: Unpark, R: Host>(
     ensures put { MatchResult result (λ first. (view end.new ≡ sender (view end.old).shares ((view end.old).sent ++ message ∷ [])) × (first ≡ gate.old.receiver) × (gate.new.receiver ≡ None)) (λ e. (message_of e ≡ message) × (view end.new ≡ view end.old) × (gate.new ≡ gate.old)) }
     ensures closed { MatchResult result (λ first. is_over gate.old ≡ false) (λ e. is_shut e ≡ is_over gate.old) }
     ensures full { OnFull result (Held (ruled_capacity queue.now) (IsQueued (view end.old).sent)) }
+    ensures room { OnOk result (HeldBelow (ruled_capacity queue.now) (IsQueued (view end.old).sent)) }
     ensures same { (is_over gate.new ≡ is_over gate.old) × (gate.new.waiting ≡ gate.old.waiting) }
 {
     if gate.is_closed() {
         return Err(TrySendError::Closed(message));
     }
-    match queue.push_as::<Sent, R>(rt, end, message) {
+    match push::<Brand, T, R>(rt, queue, end, message) {
         Ok(()) => Ok(mem::replace(&mut gate.receiver, None)),
         Err(message) => Err(TrySendError::Full(message)),
     }
+}
+
+// Queues a message if a place is left. Else it comes back.
+fn push<P: Places, T: Drop, R: Host>(
+    rt: &R,
+    queue: &Queue<T>,
+    end: &mut End<T>,
+    message: T,
+) -> Result<(), T>
+    requires queue { IsPassOf queue.now end.old }
+    requires sends { (view end.old).sends ≡ true }
+    requires places { ruled_capacity queue.now ≡ P.places }
+    ensures queue { IsSamePass end.old end.new }
+    ensures sent { MatchResult result (λ done. (view end.new ≡ sender (view end.old).shares ((view end.old).sent ++ message ∷ [])) × HeldBelow P.places (IsQueued (view end.old).sent)) (λ back. (back ≡ message) × (view end.new ≡ view end.old) × Held P.places (IsQueued (view end.old).sent)) }
+{
+    queue.push_as::<Sent<P>, R>(rt, end, message)
 }
 
 /// Takes the first message, and returns it with those who wait to send, who are to be woken now.
@@ -170,7 +188,30 @@ pub(crate) fn take<T: Drop, U: Unpark, R: Host>(
     }
 }
 
-/// Takes the first message as `take` does. If none is queued and the channel is open, keeps who waits to receive.
+/// Takes the first message as `take` does. If none is queued, refuses with `Disconnected` if and only if the channel is
+/// closed, and else with `Empty`. A refusal leaves the gate as it was.
+pub(crate) fn take_or_refuse<T: Drop, U: Unpark, R: Host>(
+    rt: &R,
+    gate: &mut Gate<U>,
+    queue: &Queue<T>,
+    end: &mut End<T>,
+) -> Result<(T, Vec<Waiter<U>>), TryRecvError>
+    requires queue { IsPassOf queue.now end.old }
+    requires receives { (view end.old).receives ≡ true }
+    ensures queue { IsSamePass end.old end.new }
+    ensures taken { MatchResult result (λ r. (view end.new ≡ hand (view end.old).shares ((view end.old).received ++ r.0 ∷ []) (view end.old).settled) × (r.1.items ≡ gate.old.waiting.items)) (λ e. (view end.new ≡ view end.old) × (gate.new ≡ gate.old) × Arrived (view end.old).shares (view end.old).received (view end.old).settled) }
+    ensures refused { IfErr result (λ e. is_disconnected e ≡ is_over gate.old) }
+    ensures none { OnOk result (gate.new.waiting.items ≡ []) }
+{
+    match take(rt, gate, queue, end) {
+        Some(taken) => Ok(taken),
+        None if gate.is_closed() => Err(TryRecvError::Disconnected),
+        None => Err(TryRecvError::Empty),
+    }
+}
+
+/// Takes the first message, or refuses, as `take_or_refuse` does. If none is queued and the channel is open, keeps who
+/// waits to receive.
 pub(crate) fn take_or_wait<T: Drop, U: Unpark, R: Host>(
     rt: &R,
     gate: &mut Gate<U>,
@@ -182,16 +223,14 @@ pub(crate) fn take_or_wait<T: Drop, U: Unpark, R: Host>(
     requires receives { (view end.old).receives ≡ true }
     ensures queue { IsSamePass end.old end.new }
     ensures taken { MatchResult result (λ r. (view end.new ≡ hand (view end.old).shares ((view end.old).received ++ r.0 ∷ []) (view end.old).settled) × (r.1.items ≡ gate.old.waiting.items)) (λ e. (view end.new ≡ view end.old) × Arrived (view end.old).shares (view end.old).received (view end.old).settled) }
-    ensures registered { result ≡ Err Empty → (gate.new.receiver ≡ Some waiter) × (is_over gate.old ≡ false) }
+    ensures registered { result ≡ Err Empty → gate.new.receiver ≡ Some waiter }
+    ensures refused { IfErr result (λ e. is_disconnected e ≡ is_over gate.old) }
     ensures waiting { MatchResult result (λ r. gate.new.waiting.items ≡ []) (λ e. gate.new.waiting.items ≡ gate.old.waiting.items) }
-    ensures closed { result ≡ Err Disconnected → (gate.old.is_stopped ≡ true) ⊎ (gate.old.senders ≡ 0) }
 {
-    match take(rt, gate, queue, end) {
-        Some(taken) => Ok(taken),
-        None => {
-            if gate.is_closed() {
-                return Err(TryRecvError::Disconnected);
-            }
+    match take_or_refuse(rt, gate, queue, end) {
+        Ok(taken) => Ok(taken),
+        Err(TryRecvError::Disconnected) => Err(TryRecvError::Disconnected),
+        Err(TryRecvError::Empty) => {
             gate.receiver = Some(waiter);
             Err(TryRecvError::Empty)
         }

@@ -11,7 +11,7 @@ ghost use Rattle.mono_model.specs.declared.poll.Poll.TheVariants.{Ready};
 
 use crate::ends::{Receiver, Sender, Shared};
 use crate::errors::TryRecvError;
-use crate::gate::{take, take_or_wait};
+use crate::gate::{take_or_refuse, take_or_wait};
 use crate::rule::{End, Received, Settles};
 use crate::waiters::{Waiter, wake_all};
 use mono_inbox::{Parker, RemoteWaker, Unpark};
@@ -181,11 +181,7 @@ impl<T: Drop, U: Unpark> Receiver<T, U> {
         ensures { TriesToReceive self.old (first_of result) self.new }
     {
         let mut gate = self.shared.gate.lock(rt);
-        match take(rt, &mut gate, &self.shared.queue, &mut self.end) {
-            Some(taken) => Ok(taken),
-            None if gate.is_closed() => Err(TryRecvError::Disconnected),
-            None => Err(TryRecvError::Empty),
-        }
+        take_or_refuse(rt, &mut gate, &self.shared.queue, &mut self.end)
     }
 
     // Takes the first message as `look` does, or keeps who waits under the same lock.

@@ -7,6 +7,7 @@ use crossbeam_queue::protocol::{Join, Lesson, Outcome, Protocol, Split};
 use crossbeam_queue::{Pass, RuledArrayQueue};
 use std::alloc::{AllocError, Global};
 use std::collections::LinkedList;
+use std::marker::{Brand, PhantomData};
 
 /// What one end of a channel has done. It exists in proofs alone.
 pub struct Hand<T> {
@@ -72,17 +73,31 @@ impl<T> Join<Hand<T>> for Settles {
     ghost spent = { spent };
 }
 
-/// A message was sent.
-pub struct Sent;
+/// How many places a queue has. It exists in proofs alone: who sends picks the number.
+pub trait Places {
+    ghost use Rattle.std.specs.Prelude.{ℕ};
 
-impl<T> Outcome<T, Hand<T>> for Sent {
-    ghost use Rattle.std.specs.Prelude.{◌≡◌, [], ◌++◌, ◌∷◌};
-    ghost use Rattle.mono_channel.specs.Delivery.{sender};
-
-    ghost then = { λ v x w. w ≡ sender v.shares (v.sent ++ x ∷ []) };
+    ghost places: { ℕ };
 }
 
-impl<T> Lesson<T, Hand<T>> for Sent {
+impl Places for Brand {
+    ghost places = { 0 };
+}
+
+/// A message was sent, while fewer were queued than the queue has places.
+pub struct Sent<P: Places> {
+    places: PhantomData<P>,
+}
+
+impl<T, P: Places> Outcome<T, Hand<T>> for Sent<P> {
+    ghost use Rattle.std.specs.Prelude.{◌≡◌, [], ◌++◌, ◌∷◌};
+    ghost use Rattle.mono_channel.specs.Delivery.{sender};
+    ghost use Rattle.mono_channel.specs.Queues.{IsQueued, HeldBelow};
+
+    ghost then = { λ v x w. (w ≡ sender v.shares (v.sent ++ x ∷ [])) × HeldBelow P.places (IsQueued v.sent) };
+}
+
+impl<T, P: Places> Lesson<T, Hand<T>> for Sent<P> {
     ghost use Rattle.mono_channel.specs.Queues.{IsQueued};
 
     ghost fact = { λ v items. IsQueued v.sent items };

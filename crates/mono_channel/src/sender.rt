@@ -1,12 +1,12 @@
 // The end that sends, and the making of a channel.
-ghost use Rattle.std.specs.Prelude.{◌≡◌, ◌<◌, ◌≤◌, true, [], Some, None, ◌++◌, ◌∷◌, IfOk, IfErr, MatchResult};
+ghost use Rattle.std.specs.Prelude.{◌≡◌, ◌<◌, ◌≤◌, true, [], Some, None, ◌++◌, ◌∷◌, IfOk, IfErr, OnOk, MatchResult};
 ghost use Rattle.std.specs.Arc.{arc_value};
 ghost use Rattle.crossbeam_queue.specs.Fifo.{Held};
 ghost use Rattle.crossbeam_queue.specs.Passes.{view, IsPassOf};
 ghost use Rattle.mono_channel.specs.Ends.{sent_by, received_by, settled_by, shares_of, bound_of, IsPair};
 ghost use Rattle.mono_channel.specs.Delivery.{all_shares, shares_kept, shares_given};
 ghost use Rattle.mono_channel.specs.Errors.{message_of, IfFull, OnFull};
-ghost use Rattle.mono_channel.specs.Queues.{IsQueued, WasFull};
+ghost use Rattle.mono_channel.specs.Queues.{IsQueued, WasFull, HadRoom};
 ghost use Rattle.mono_channel.specs.Polls.{PollsToSend};
 ghost use Rattle.mono_model.specs.declared.poll.Poll.TheVariants.{Ready};
 ghost use Rattle.mono_model.specs.Poll.{OnPending};
@@ -19,6 +19,7 @@ use crate::waiters::{Waiter, wake_first};
 use mono_inbox::{Parker, RemoteWaker, Unpark};
 use mono_model::{Host, Poll};
 use std::alloc::{AllocError, Global};
+use std::marker::Brand;
 use std::mem;
 use std::sync::{Arc, Mutex};
 
@@ -78,10 +79,12 @@ impl<T: Drop, U: Unpark> Sender<T, U> {
     /// Queues a message at once, and then wakes the task that waits to receive.
     ///
     /// Refused with `Closed` if the channel or this sender was closed, and with `Full` if each place is taken: as many
-    /// messages were queued as the channel has places (`full`). A refused message comes back.
+    /// messages were queued as the channel has places (`full`). If the message is queued, fewer were (`room`). A refused
+    /// message comes back.
     pub fn try_send<R: Host>(&mut self, rt: &R, message: T) -> Result<(), TrySendError<T>>
         ensures sent { MatchResult result (λ done. sent_by self.new ≡ sent_by self.old ++ message ∷ []) (λ e. (message_of e ≡ message) × (sent_by self.new ≡ sent_by self.old)) }
         ensures full { OnFull result (WasFull self.old) }
+        ensures room { OnOk result (HadRoom self.old) }
         ensures same { IsPair self.new self.old × (shares_of self.new ≡ shares_of self.old) }
     {
         if self.is_closed {
@@ -96,6 +99,7 @@ impl<T: Drop, U: Unpark> Sender<T, U> {
     fn queue<R: Host>(&mut self, rt: &R, message: T) -> Result<Option<Waiter<U>>, TrySendError<T>>
         ensures sent { MatchResult result (λ first. sent_by self.new ≡ sent_by self.old ++ message ∷ []) (λ e. (message_of e ≡ message) × (sent_by self.new ≡ sent_by self.old)) }
         ensures full { OnFull result (WasFull self.old) }
+        ensures room { OnOk result (HadRoom self.old) }
         ensures same { IsPair self.new self.old × (shares_of self.new ≡ shares_of self.old) }
     {
         let mut gate = self.shared.gate.lock(rt);
@@ -189,7 +193,9 @@ impl<T: Drop, U: Unpark> Sender<T, U> {
         ensures same { IsPair self.new self.old × (sent_by self.new ≡ sent_by self.old) × (shares_of self.new ≡ shares_of self.old) }
     {
         let _gate = self.shared.gate.lock(rt);
-        self.shared.queue.len_as::<Sent, R>(rt, &mut self.end)
+        self.shared
+            .queue
+            .len_as::<Sent<Brand>, R>(rt, &mut self.end)
     }
 
     /// Returns for how many messages the channel has places.
