@@ -26,7 +26,7 @@ use mono_combine::{
 use mono_inbox::Unpark;
 use mono_stream::{Collect, Fold, ForEach, Next};
 use mono_sync::acts::AtOnce;
-use mono_sync::{Acquire, AcquireAt, Notified, NotifiedAt, mpsc, oneshot, watch};
+use mono_sync::{Acquire, AcquireAt, Notified, NotifiedAt, mpsc, oneshot, tallies, watch};
 use mono_task::JoinHandle;
 use mono_time::{Sleep, SleepFor, Tick, Timeout, TimeoutFor};
 use std::alloc::{AllocFailed, Global};
@@ -268,6 +268,10 @@ impl<W, T> FutureExt for mpsc::Recv<W, T> {}
 impl<W, T> FutureExt for mpsc::SendAt<W, T> {}
 
 impl<W, T> FutureExt for mpsc::RecvAt<W, T> {}
+
+impl<W, T, S> FutureExt for tallies::Send<W, T, S> {}
+
+impl<W, T, S> FutureExt for tallies::Recv<W, T, S> {}
 
 impl<W, T> FutureExt for oneshot::Recv<W, T> {}
 

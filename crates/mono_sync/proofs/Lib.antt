@@ -19,6 +19,7 @@ pub mod ListedLemmas
 pub mod OwnLemmas
 pub mod IdleLemmas
 pub mod RisingLemmas
+mod TallyLemmas
 mod TouchedLemmas
 mod ManyLemmas
 mod MadeLemmas

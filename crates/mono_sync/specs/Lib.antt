@@ -36,3 +36,5 @@ pub mod KeyedMessages
 pub mod KeyedPermits
 pub mod KeyedNotices
 pub mod KeyedChanges
+pub mod Tallies
+pub mod TallySpent

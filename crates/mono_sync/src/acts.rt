@@ -14,6 +14,7 @@ mod notices;
 mod owns;
 mod performs;
 mod permits;
+mod tallies;
 
 pub use changes::{CloseValueCall, SendValueCall, close_value, send_value};
 pub use deliveries::{CloseOnceCall, SendOnceCall, close_once, send_once};
@@ -35,3 +36,4 @@ pub use performs::{Act, AtOnce, perform};
 pub use permits::{
     CloseSemaphoreCall, ReleaseCall, TryAcquireCall, close_semaphore, release, try_acquire,
 };
+pub use tallies::{CloseTalliedCall, close_tallied};

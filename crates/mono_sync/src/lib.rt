@@ -25,6 +25,8 @@ mod parts;
 pub mod permits;
 mod semaphores;
 mod tables;
+mod tallied_messages;
+pub mod tallies;
 mod touched;
 pub mod watch;
 

@@ -115,7 +115,7 @@ impl<T> Channel<T> {
     }
 
     // Takes the first sender out of its line, if a place is free for it or the channel was closed.
-    fn pay_sender(&mut self) -> Option<Waiter>
+    pub(crate) fn pay_sender(&mut self) -> Option<Waiter>
         ensures { PaysSender self.old result self.new }
     {
         let room = self.places();
@@ -123,7 +123,7 @@ impl<T> Channel<T> {
     }
 
     // Takes the first receiver out of its line, if a message is there for it or the channel was closed.
-    fn pay_receiver(&mut self) -> Option<Waiter>
+    pub(crate) fn pay_receiver(&mut self) -> Option<Waiter>
         ensures { PaysReceiver self.old result self.new }
     {
         self.receivers.take(self.is_closed, self.queue.len())
