@@ -78,16 +78,6 @@ fn a_park_ends_by_another_thread(rt: HostRuntime) {
     }
 }
 
-#[test]
-fn a_timed_park_of_a_driver_ends_near_its_time(rt: HostRuntime) {
-    let clock = clock_of(&rt, rt.alloc(), &[0]);
-    let mut driver = ThreadDriver::new(rt.alloc(), clock).expect(&rt, "memory");
-    let begin = time::Instant::now(&rt).expect(&rt, "a clock");
-    assert!(rt; driver.park_timeout(&rt, Duration::from_millis(300)).is_ok());
-    let gone = begin.elapsed(&rt).expect(&rt, "a clock");
-    assert!(rt; gone >= Duration::from_millis(300) && gone < Duration::from_secs(30));
-}
-
 /// Returns a driver that parks its thread. Its clock always reads 0.
 fn parking<R: Abort>(rt: &R, alloc: Global) -> ThreadDriver<ListClock> {
     ThreadDriver::new(alloc, clock_of(rt, alloc, &[0])).expect(rt, "memory")

@@ -17,8 +17,6 @@ mod joinwords;
 #[cfg(test)]
 mod keeps;
 #[cfg(test)]
-mod known_rows;
-#[cfg(test)]
 mod pairs;
 #[cfg(test)]
 mod parkers;

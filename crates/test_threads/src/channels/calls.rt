@@ -18,18 +18,6 @@ fn next<R: Host>(rt: &R, receiver: &mut Receiver<u64, NoUnpark>) -> Option<u64> 
 }
 
 #[test]
-fn messages_come_in_order(rt: HostRuntime) {
-    let (mut sender, mut receiver) = a_channel(rt.alloc()).expect(&rt, "memory");
-    assert!(rt; sender.try_send(&rt, 10).is_ok());
-    assert!(rt; sender.try_send(&rt, 11).is_ok());
-    assert_eq!(rt; next(&rt, &mut receiver), Some(10));
-    assert!(rt; sender.try_send(&rt, 12).is_ok());
-    assert_eq!(rt; next(&rt, &mut receiver), Some(11));
-    assert_eq!(rt; next(&rt, &mut receiver), Some(12));
-    assert_eq!(rt; next(&rt, &mut receiver), None);
-}
-
-#[test]
 fn a_full_channel_gives_the_message_back(rt: HostRuntime) {
     let (mut sender, mut receiver) = a_channel(rt.alloc()).expect(&rt, "memory");
     assert!(rt; sender.try_send(&rt, 10).is_ok());
@@ -63,26 +51,6 @@ fn the_last_sender_closes_the_channel(rt: HostRuntime) {
     assert!(rt; matches!(receiver.try_recv(&rt), Err(TryRecvError::Empty)));
     second.close(&rt);
     assert!(rt; matches!(receiver.try_recv(&rt), Err(TryRecvError::Disconnected)));
-}
-
-#[test]
-fn a_channel_takes_as_many_messages_as_it_has_places(rt: HostRuntime) {
-    for bound in 1..5usize {
-        let (mut sender, mut receiver) = channel::<u64, NoUnpark>(rt.alloc(), bound).expect(
-            &rt, "memory",
-        );
-        assert_eq!(rt; sender.capacity(), bound);
-        assert_eq!(rt; receiver.capacity(), bound);
-        for number in 0..bound {
-            assert_eq!(rt; receiver.len(&rt), number);
-            assert!(rt; sender.try_send(&rt, 7).is_ok());
-        }
-        assert_eq!(rt; sender.len(&rt), bound);
-        assert!(rt; matches!(sender.try_send(&rt, 8), Err(TrySendError::Full(8))));
-        assert_eq!(rt; next(&rt, &mut receiver), Some(7));
-        assert_eq!(rt; sender.len(&rt), bound - 1);
-        assert!(rt; sender.try_send(&rt, 9).is_ok());
-    }
 }
 
 #[test]
