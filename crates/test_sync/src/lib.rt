@@ -1,13 +1,7 @@
-//! Tests of channels, semaphores, notices, watched values, locks, barriers, cells and broadcasts, over their public calls:
-//! of values alone, in turns of tasks without a runtime, and on runtimes.
+//! Tests of channels, semaphores, notices, watched values and locks, over their public calls: of values alone, and in turns
+//! of tasks without a runtime.
 #![tactic(auto)]
 
-#[cfg(test)]
-mod by_key;
-#[cfg(test)]
-mod channels;
-#[cfg(test)]
-mod forms;
 #[cfg(test)]
 mod kept_notices;
 #[cfg(test)]
@@ -15,15 +9,9 @@ mod locks;
 #[cfg(test)]
 mod many;
 #[cfg(test)]
-mod memory;
-#[cfg(test)]
 mod notices;
 #[cfg(test)]
 mod oneshots;
-#[cfg(test)]
-mod passed_on;
-#[cfg(test)]
-mod requests;
 #[cfg(test)]
 mod semaphores;
 #[cfg(test)]

@@ -1,8 +1,8 @@
 // Far more waits and messages than a list has room for at first: a value that gives up at some length answers Memory here.
-use mono_rt::SharedState;
 use mono_sync::mpsc::{Channel, Receiving, Sending};
 use mono_sync::watch::{Changing, Watch};
-use mono_sync::{Acquiring, Notify, Notifying, Semaphore};
+use mono_sync::{Acquiring, Many, Notify, Notifying, Semaphore};
+use mono_task::SharedState;
 
 /// How many tasks wait, or how many messages are queued, at one value.
 const MANY: u64 = 200_000;
@@ -94,4 +94,22 @@ fn many_messages_are_queued(rt: HostRuntime) {
         come = come & matches!(channel.try_recv(), Ok(message) if message == number);
     }
     assert!(rt; come);
+}
+
+/// How many parts one table has.
+const PARTS: u64 = 1000;
+
+#[test]
+fn many_parts_come_and_go(rt: HostRuntime) {
+    let alloc = rt.alloc();
+    let mut parts: Many<Semaphore> = Many::new(alloc);
+    let mut come = true;
+    for key in 0..PARTS {
+        let made = parts.make(alloc, Semaphore::new(alloc, 1));
+        come = come & matches!(made, Ok(had) if had == key);
+    }
+    for key in 0..PARTS {
+        come = come & parts.remove(key).is_ok();
+    }
+    assert!(rt; come & (parts.len() == 0));
 }

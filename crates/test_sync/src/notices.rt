@@ -1,6 +1,6 @@
 // A notice.
-use mono_rt::SharedState;
 use mono_sync::{Notify, Notifying};
+use mono_task::SharedState;
 
 // Returns the ticket of a future of this task that waits from now on.
 fn drawn(notify: &mut Notify, by: u64) -> Option<u64> {
@@ -25,22 +25,6 @@ fn one_is_kept(rt: HostRuntime) {
     assert_eq!(rt; drawn(&mut notify, 1), Some(0));
 }
 
-// The task that has waited longest is notified.
-#[test]
-fn first_come_first_served(rt: HostRuntime) {
-    let mut notify = Notify::new(rt.alloc());
-    let one = drawn(&mut notify, 1);
-    let two = drawn(&mut notify, 2);
-    notify.notify_one();
-    assert_eq!(rt; (notify.next_owed(), notify.next_owed()), (Some(1), None));
-    assert!(rt; !has(&mut notify, two, 2));
-    assert!(rt; has(&mut notify, one, 1));
-    notify.give_up(two, 2);
-    notify.notify_one();
-    assert_eq!(rt; notify.next_owed(), None);
-    assert!(rt; has(&mut notify, None, 3));
-}
-
 // Each notice to one in the same turn goes to another task. One more is kept.
 #[test]
 fn two_at_once(rt: HostRuntime) {
@@ -57,38 +41,5 @@ fn two_at_once(rt: HostRuntime) {
     assert_eq!(rt; notify.next_owed(), None);
     assert!(rt; has(&mut notify, one, 1) && has(&mut notify, two, 2));
     assert!(rt; has(&mut notify, None, 3));
-    assert_eq!(rt; drawn(&mut notify, 3), Some(2));
-}
-
-// A future that was notified and is given up hands its notice on, or it is kept.
-#[test]
-fn handed_on(rt: HostRuntime) {
-    let mut notify = Notify::new(rt.alloc());
-    let one = drawn(&mut notify, 1);
-    let two = drawn(&mut notify, 2);
-    notify.notify_one();
-    assert_eq!(rt; notify.next_owed(), Some(1));
-    notify.give_up(one, 1);
-    assert_eq!(rt; notify.next_owed(), Some(2));
-    notify.give_up(two, 2);
-    assert_eq!(rt; notify.next_owed(), None);
-    assert!(rt; has(&mut notify, None, 3));
-}
-
-// All that wait are notified, and no notice is kept.
-#[test]
-fn all_at_once(rt: HostRuntime) {
-    let mut notify = Notify::new(rt.alloc());
-    let one = drawn(&mut notify, 1);
-    let two = drawn(&mut notify, 2);
-    notify.notify_waiters();
-    assert_eq!(rt;
-        (notify.next_owed(), notify.next_owed()),
-        (Some(1), Some(2))
-    );
-    assert_eq!(rt; notify.next_owed(), None);
-    assert!(rt; has(&mut notify, one, 1));
-    notify.give_up(two, 2);
-    assert_eq!(rt; notify.next_owed(), None);
     assert_eq!(rt; drawn(&mut notify, 3), Some(2));
 }

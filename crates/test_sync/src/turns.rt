@@ -8,9 +8,7 @@ ghost use Rattle.test_sync.specs.Turns.{keeps_on};
 mod by_key;
 mod enabled;
 mod kinds;
-mod refused;
 mod singles;
-mod tables;
 
 use mono_model::{Host, Poll};
 use mono_task::{Context, SharedContext, SharedState, TaskError, TaskFuture, Woke};
@@ -167,34 +165,5 @@ impl<W: SharedState + Drop> Turn<W> {
         }
         self.task = 7;
         self.answer(rt, alloc, &mut future)
-    }
-
-    /// Lets a future of task 7 and one of task 8 wait, makes a call that wakes task 7, and gives its future up. Returns the
-    /// other future's answer if that wakes task 8.
-    pub(crate) fn passed_on<F: TaskFuture<Turn<W>>, A: TaskFuture<Turn<W>>, R: Host>(
-        &mut self,
-        rt: &R,
-        alloc: Global,
-        futures: (F, F),
-        act: A,
-    ) -> Option<F::Output>
-    where
-        A::Output: Drop,
-        F::Output: Drop,
-        requires future { (f : F) → F.can_poll f }
-        requires act { (f : A) → A.can_poll f }
-    {
-        let (mut first, mut second) = futures;
-        let wait = self.waits(rt, alloc, 7, &mut first) && self.waits(rt, alloc, 8, &mut second);
-        if !wait || !self.makes(rt, alloc, act) || !self.wakes(Some(7)) {
-            return None;
-        }
-        self.task = 7;
-        first.cancel(self);
-        if !self.wakes(Some(8)) {
-            return None;
-        }
-        self.task = 8;
-        self.answer(rt, alloc, &mut second)
     }
 }

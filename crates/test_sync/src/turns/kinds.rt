@@ -1,9 +1,7 @@
 // Tables of all kinds as one value, next to a value of the user. Each table is a part of its own, and the whole owes what any of
 // them owes.
 use mono_sync::mpsc::{Channel, Receiving};
-use mono_sync::oneshot::{self, Oneshot};
-use mono_sync::watch::{Changing, Watch};
-use mono_sync::{Acquiring, Holds, Many, Notify, Notifying, Own, Semaphore, Tables, empty_tables};
+use mono_sync::{Holds, Many, Notify, Notifying, Own, Tables, empty_tables};
 use mono_task::SharedState;
 use std::alloc::Global;
 
@@ -15,7 +13,7 @@ fn puts<W: Holds<Many<X>>, X: SharedState + Drop>(whole: &mut W, alloc: Global, 
     matches!(whole.part_mut().make(alloc, part), Ok(0))
 }
 
-// Puts a channel into its table, in which this task waits and has a message.
+// Puts a channel into its table, the first one, in which this task waits and has a message.
 fn puts_channel(alloc: Global, shared: &mut Shared, task: u64) -> bool {
     let mut channel: Channel<u64> = Channel::new(alloc, 1);
     let waits = matches!(channel.recv(None, task), Receiving::Joined(0));
@@ -23,31 +21,7 @@ fn puts_channel(alloc: Global, shared: &mut Shared, task: u64) -> bool {
     waits & sent & puts::<Shared, Channel<u64>>(shared, alloc, channel)
 }
 
-// Puts a oneshot channel into its table, in which this task waits and has a message.
-fn puts_oneshot(alloc: Global, shared: &mut Shared, task: u64) -> bool {
-    let mut once: Oneshot<u64> = Oneshot::new(alloc);
-    let waits = matches!(once.recv(None, task), oneshot::Receiving::Joined(0));
-    let sent = once.send(20).is_ok();
-    waits & sent & puts::<Shared, Oneshot<u64>>(shared, alloc, once)
-}
-
-// Puts a watched value into its table, for which this task waits and which has changed.
-fn puts_watch(alloc: Global, shared: &mut Shared, task: u64) -> bool {
-    let mut watch: Watch<u64> = Watch::new(alloc, 10);
-    let waits = matches!(watch.changed(0, None, task), Changing::Joined(0));
-    let sent = watch.send(20).is_ok();
-    waits & sent & puts::<Shared, Watch<u64>>(shared, alloc, watch)
-}
-
-// Puts a semaphore into its table, in which this task waits and has a permit.
-fn puts_semaphore(alloc: Global, shared: &mut Shared, task: u64) -> bool {
-    let mut semaphore = Semaphore::new(alloc, 0);
-    let waits = matches!(semaphore.acquire(None, task), Acquiring::Joined(0));
-    let released = semaphore.release().is_ok();
-    waits & released & puts::<Shared, Semaphore>(shared, alloc, semaphore)
-}
-
-// Puts a notice into its table, for which this task waits and which was given.
+// Puts a notice into its table, the last one, for which this task waits and which was given.
 fn puts_notice(alloc: Global, shared: &mut Shared, task: u64) -> bool {
     let mut notify = Notify::new(alloc);
     let waits = matches!(notify.notified(None, task), Notifying::Joined(0));
@@ -62,19 +36,12 @@ fn puts_notice(alloc: Global, shared: &mut Shared, task: u64) -> bool {
 fn tables_in_a_row(rt: HostRuntime) {
     let alloc = rt.alloc();
     let mut shared: Shared = empty_tables(alloc, 10);
-    assert!(rt; puts_notice(alloc, &mut shared, 5) && puts_semaphore(alloc, &mut shared, 4));
-    assert!(rt; puts_watch(alloc, &mut shared, 3) && puts_oneshot(alloc, &mut shared, 2));
-    assert!(rt; puts_channel(alloc, &mut shared, 1));
+    assert!(rt; puts_notice(alloc, &mut shared, 5) & puts_channel(alloc, &mut shared, 1));
     let own: &mut Own<u64> = shared.part_mut();
     own.value = 11;
     assert_eq!(rt;
         (shared.next_owed(), shared.next_owed()),
-        (Some(1), Some(2))
+        (Some(1), Some(5))
     );
-    assert_eq!(rt;
-        (shared.next_owed(), shared.next_owed()),
-        (Some(3), Some(4))
-    );
-    assert_eq!(rt; (shared.next_owed(), shared.next_owed()), (Some(5), None));
-    assert_eq!(rt; shared.first.value, 11);
+    assert_eq!(rt; (shared.next_owed(), shared.first.value), (None, 11));
 }

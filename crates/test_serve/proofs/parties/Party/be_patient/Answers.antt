@@ -1,6 +1,0 @@
-use Rattle.test_serve.proofs.parties.Party.be_patient.Goals as goal
-
-pub returns-in-Ready : goal.returns-in-Ready
-returns-in-Ready g c =
-    let on = g.met.C.Context.reaches_on in
-    on _ _ _ (on _ _ _ c.poll.ensures.reached c.cancel.ensures.reached) c.answered.ensures
