@@ -1,7 +1,6 @@
 //! Intervals on a small context.
-use crate::desks::{Desk, at_millis, empty_desk, fires, polled};
-use mono_model::Host;
-use mono_task::{Poll, TaskFuture};
+use crate::desks::{Desk, at_millis, empty_desk, fires};
+use mono_task::Poll;
 use mono_time::*;
 use std::alloc::Global;
 use std::time::Duration;
@@ -17,29 +16,6 @@ pub(crate) fn go_to(cx: &mut Desk, millis: u32) {
 // Returns whether a poll of the interval answers this tick.
 pub(crate) fn ticks_at(cx: &mut Desk, interval: &mut Interval, millis: u32) -> bool {
     interval.poll_tick(cx) == Ok(Poll::Ready(at_millis(millis)))
-}
-
-// Returns whether the future of the interval's next tick answers this tick.
-fn ticks_by_future<R: Host>(
-    rt: &R,
-    alloc: Global,
-    cx: &mut Desk,
-    interval: &mut Interval,
-    millis: u32,
-) -> bool {
-    interval.tick().poll(rt, alloc, cx) == Poll::Ready(Ok(at_millis(millis)))
-}
-
-// Returns whether the interval's tick as a future waits for its deadline, is given up, and answers that deadline at last.
-fn ticks_as_future<R: Host>(rt: &R, alloc: Global, cx: &mut Desk) -> bool {
-    let Ok(mut ticks) = interval_at(alloc, cx, at_millis(50), Duration::from_millis(10)) else {
-        return false;
-    };
-    let mut tick = ticks.tick();
-    let early = polled(rt, alloc, cx, &mut tick);
-    tick.cancel(cx);
-    go_to(cx, 50);
-    early == Poll::Pending && ticks_by_future(rt, alloc, cx, &mut ticks, 50)
 }
 
 // Returns whether an interval of 50 ms from a start, whose first tick is polled at a time, ticks next at that deadline.
@@ -82,10 +58,4 @@ fn missed_ticks(rt: HostRuntime) {
         let mut cx = empty_desk(&rt, rt.alloc(), at_millis(0));
         assert!(rt; goes_on(rt.alloc(), &mut cx, behavior, start, now, next));
     }
-}
-
-#[test]
-fn a_tick_is_a_future(rt: HostRuntime) {
-    let mut cx = empty_desk(&rt, rt.alloc(), at_millis(0));
-    assert!(rt; ticks_as_future(&rt, rt.alloc(), &mut cx));
 }

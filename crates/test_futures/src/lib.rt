@@ -1,5 +1,5 @@
-//! Tests of the wheel and its lists, the tables, tasks, instants, timers, combined futures, streams, the nest, retries
-//! and a core of the lease server, over their public calls.
+//! Tests of the wheel and its lists, the tables, tasks, instants, timers, combined futures, streams, the nest and
+//! retries, over their public calls.
 #![tactic(auto)]
 
 #[cfg(test)]
@@ -14,8 +14,6 @@ mod desks;
 mod instants;
 #[cfg(test)]
 mod interval_ticks;
-#[cfg(test)]
-mod leases;
 #[cfg(test)]
 mod lent;
 #[cfg(test)]

@@ -1,7 +1,6 @@
 //! Sleeps on a small context.
-use crate::desks::{Desk, at_millis, empty_desk, polled};
-use mono_model::{Host, MAX_NANOS};
-use mono_task::{Poll, TaskFuture};
+use crate::desks::{Desk, at_millis, empty_desk};
+use mono_model::MAX_NANOS;
 use mono_time::*;
 use std::alloc::Global;
 use std::time::Duration;
@@ -17,25 +16,6 @@ fn far_off(alloc: Global, cx: &mut Desk) -> bool {
     far.deadline().as_nanos() == 946080000000000000
         && same.deadline() == far.deadline()
         && same.number() == 1
-}
-
-// Returns whether a sleep waits, is moved and is given up.
-fn sleeps<R: Host>(rt: &R, alloc: Global, cx: &mut Desk) -> bool {
-    let Ok(mut short) = sleep(alloc, cx, Duration::from_millis(3)) else {
-        return false;
-    };
-    let waits = polled(rt, alloc, cx, &mut short).is_pending();
-    let moved = short.reset(cx, at_millis(0)) == Ok(());
-    let elapsed = short.is_elapsed(cx) == Ok(true);
-    let ready = polled(rt, alloc, cx, &mut short) == Poll::Ready(Ok(()));
-    short.cancel(cx);
-    waits && moved && elapsed && ready && cx.sleep_elapsed(0) == Err(Error::Shutdown)
-}
-
-#[test]
-fn futures(rt: HostRuntime) {
-    let mut cx = empty_desk(&rt, rt.alloc(), at_millis(0));
-    assert!(rt; sleeps(&rt, rt.alloc(), &mut cx));
 }
 
 #[test]
