@@ -3,11 +3,11 @@ ghost use Rattle.mono_blocking.specs.Handles.{OfHandle};
 ghost use Rattle.mono_task.specs.Joins.{IsOfHandle};
 
 use crate::contexts::begin;
-use crate::jobs::{Gives, keeping, on_caller, run};
+use crate::jobs::run;
 use mono_forms::FutureExt;
 use mono_rt::{
-    BlockingHandle, Host, JoinContext, JoinError, JoinHandle, Poll, PollJob, Refusal, RunError,
-    TaskError, TaskFuture, ThreadPool,
+    BlockingStrategy, Host, JoinContext, JoinError, JoinHandle, Poll, PollJob, Refusal, RunError,
+    TaskError, TaskFuture,
 };
 use std::alloc::Global;
 use std::process::Abort;
@@ -66,7 +66,7 @@ impl<C: JoinContext<u64>> TaskFuture<C> for Asks {
 
 /// Asks for the output of the task of this number in a main task of the number 0, and returns the code.
 fn asked<R: Host + Abort>(rt: &R, alloc: Global, task: u64) -> Result<u64, RunError> {
-    run(rt, alloc, on_caller(), 0, Asks(task))
+    run(rt, alloc, BlockingStrategy::Panic, 0, Asks(task))
 }
 
 #[test]
@@ -75,17 +75,9 @@ fn a_handle_is_refused_or_pending(rt: HostRuntime) {
     assert_eq!(rt; asked(&rt, rt.alloc(), 0), Ok(9000));
 }
 
-/// Runs a job by its handle on this pool, and returns its output or a code.
-fn run_by_handle<P: ThreadPool<Job = Gives> + Drop, R: Host + Abort>(
-    rt: &R,
-    alloc: Global,
-    pool: BlockingHandle<P>,
-) -> Result<u64, RunError> {
-    run(rt, alloc, pool, 1, begin(9).flatten().map(job_code))
-}
-
 #[test]
 fn a_closure_gets_what_the_handle_of_a_job_answers(rt: HostRuntime) {
-    assert_eq!(rt; run_by_handle(&rt, rt.alloc(), on_caller()), Ok(9));
-    assert_eq!(rt; run_by_handle(&rt, rt.alloc(), keeping(true)), Ok(2001));
+    let task = begin(9).flatten().map(job_code);
+    let strategy = BlockingStrategy::ExecuteLocal;
+    assert_eq!(rt; run(&rt, rt.alloc(), strategy, 1, task), Ok(9));
 }

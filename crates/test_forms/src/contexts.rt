@@ -1,13 +1,12 @@
-// Futures that are generic over their context: one spawns tasks, and one starts a job. The job's handle then stands
-// under a timeout.
+// Futures that are generic over their context: one spawns tasks, and one starts a job.
 ghost use Rattle.std.specs.Prelude.{⊤};
 
-use crate::jobs::{Gives, keeping, on_caller, run};
+use crate::jobs::Gives;
 use mono_forms::FutureExt;
 use mono_rt::{
-    BlockingHandle, BlockingStrategy, Host, JobContext, JobHandle, JoinError, JoinHandle,
-    LateError, Limits, NoJob, NoPool, Outcome, Poll, PollJob, RunError, SleepFor, SpawnContext,
-    StepDriver, TaskFuture, ThreadPool, TimeContext, run_alone, sleep_for, timeout_for,
+    BlockingHandle, BlockingStrategy, Host, JobContext, JobHandle, JoinHandle, Limits, NoJob,
+    NoPool, Outcome, Poll, RunError, SleepFor, SpawnContext, StepDriver, TaskFuture, TimeContext,
+    run_alone, sleep_for,
 };
 use std::alloc::Global;
 use std::process::Abort;
@@ -182,46 +181,4 @@ pub(crate) fn begin(number: u64) -> Begins<Gives> {
     Begins {
         job: Some(Gives(number)),
     }
-}
-
-/// What a job's handle answers.
-type Answer = Result<Result<u64, JoinError>, PollJob>;
-
-type Late = Result<Answer, LateError>;
-
-/// Returns the output, or a code.
-fn code(answer: Answer) -> u64 {
-    match answer {
-        Ok(Ok(output)) => output,
-        Ok(Err(_)) => 4000,
-        Err(_) => 5000,
-    }
-}
-
-/// Returns the output, or a code.
-fn late_code(answer: Late) -> u64 {
-    match answer {
-        Ok(answer) => code(answer),
-        Err(_) => 6000,
-    }
-}
-
-/// Runs a job by its handle under a timeout of 10 ms on this pool, and returns its output or a code.
-fn under_a_timeout<P: ThreadPool<Job = Gives> + Drop, R: Host + Abort>(
-    rt: &R,
-    alloc: Global,
-    pool: BlockingHandle<P>,
-) -> Result<u64, RunError> {
-    let limit = Duration::from_millis(10);
-    let task = begin(7).then(move |handle: JobHandle| timeout_for(limit, handle).map(
-        |answer: Late| late_code(answer),
-    ));
-    run(rt, alloc, pool, 1, task)
-}
-
-#[test]
-fn a_timeout_ends_a_jobs_handle_that_is_late(rt: HostRuntime) {
-    assert_eq!(rt; under_a_timeout(&rt, rt.alloc(), on_caller()), Ok(7));
-    assert_eq!(rt; under_a_timeout(&rt, rt.alloc(), keeping(false)), Ok(6000));
-    assert_eq!(rt; under_a_timeout(&rt, rt.alloc(), keeping(true)), Ok(4000));
 }

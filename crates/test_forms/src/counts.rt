@@ -1,4 +1,4 @@
-// Futures whose closures rest on what they captured, each on a runtime of its own.
+// A future whose closure rests on what it captured, on a runtime of its own.
 ghost use Rattle.std.specs.Prelude.{◌≡◌, ◌+◌, ◌<◌, ◌⊎◌, IfOk};
 
 use crate::chains::{Ended, told_in};
@@ -10,34 +10,6 @@ use mono_rt::{
 };
 use std::alloc::{AllocError, Global};
 use std::time::Duration;
-
-/// Sleeps, counts one up from a count below 1,000, and sleeps again. The closure that counts has captured the count, so
-/// not every future of its type can be polled; this one can.
-fn count_up<R: Host>(rt: &R, alloc: Global, count: u64) -> Result<Ended<u64>, AllocError>
-    requires { count < 1000 }
-    ensures { IfOk result (λ ended. IfOk ended.0 (λ n. (n ≡ count + 1) ⊎ (n ≡ 0))) }
-{
-    let milli = Duration::from_millis(1);
-    let task = sleep_for(milli)
-        .and_then(move |_: ()| {
-            let counted = count + 1;
-            sleep_for(milli).map_ok(move |_: ()| counted)
-        })
-        .map(|answer: Result<u64, SleepError>| match answer {
-            Ok(counted) => counted,
-            Err(_) => 0,
-        });
-    quiet_futures_spawn_none::<_, u64, NoPool, NoUnpark, ()>(&task);
-    let limits = Limits {
-        tasks: 1,
-        jobs: 0,
-        sleeps: 2,
-    };
-    let driver = StepDriver::new(Vec::new(alloc));
-    let pool: BlockingHandle<NoPool> = BlockingHandle::Empty(BlockingStrategy::Panic);
-    let (answer, journal) = run_alone(rt, alloc, driver, pool, limits, task, 100)?;
-    Ok((answer, told_in(&journal)))
-}
 
 /// Races the count one up from a count below 1,000 against a longer sleep. Its closure has captured the count.
 fn count_in_a_race<R: Host>(rt: &R, alloc: Global, count: u64) -> Result<Ended<u64>, AllocError>
@@ -62,14 +34,6 @@ fn count_in_a_race<R: Host>(rt: &R, alloc: Global, count: u64) -> Result<Ended<u
     let pool: BlockingHandle<NoPool> = BlockingHandle::Empty(BlockingStrategy::Panic);
     let (answer, journal) = run_alone(rt, alloc, driver, pool, limits, task, 100)?;
     Ok((answer, told_in(&journal)))
-}
-
-#[test]
-fn a_closure_rests_on_a_captured_count(rt: HostRuntime) {
-    for count in [0, 1, 999] {
-        let ended = count_up(&rt, rt.alloc(), count).expect(&rt, "memory");
-        assert_eq!(rt; ended, (Ok(count + 1), (3, 2, 2)));
-    }
 }
 
 #[test]

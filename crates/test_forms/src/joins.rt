@@ -1,37 +1,21 @@
-// Joins and selects as main tasks of built runtimes, over sleeps and over the handles of spawned tasks. A join parks for
-// the longest of its sleeps, and a form that has answered leaves no sleep behind for which a task parks.
-use crate::chains::{Ended, one, run, told_in};
-use mono_combine::{Join2, Select2, Start, maybe_done};
+// A select as a main task of a built runtime, over the handles of spawned tasks. A form that has answered leaves no sleep
+// behind for which a task parks.
+use crate::chains::{Ended, one, told_in};
+use mono_combine::{Select2, Start};
 use mono_forms::FutureExt;
 use mono_model::Host;
 use mono_rt::{Cx, NoPool, NoUnpark, RuntimeBuilder, StepDriver, TimeDriver};
 use mono_task::{JoinHandle, TaskError, TaskFuture};
-use mono_time::{SleepError, SleepFor, sleep_for};
+use mono_time::{SleepFor, sleep_for};
 use std::alloc::Global;
 use std::process::Abort;
 use std::time::Duration;
-
-/// The answer of a sleep.
-type Slept = Result<(), SleepError>;
 
 /// The answer of a task's handle.
 type Joined = Result<u64, TaskError>;
 
 fn millis(count: u64) -> SleepFor {
     sleep_for(Duration::from_millis(count))
-}
-
-/// Returns whether all sleeps ended.
-fn all_slept(all: ((Slept, Slept), (Slept, ()))) -> bool {
-    all.0.0.is_ok() && all.0.1.is_ok() && all.1.0.is_ok()
-}
-
-#[test]
-fn a_join_of_joins_is_a_main_task(rt: HostRuntime) {
-    let first = Join2::new(millis(5), millis(7));
-    let second = Join2::new(millis(6), maybe_done(millis(2)));
-    let task = Join2::new(first, second).map(all_slept);
-    assert_eq!(rt; run(&rt, rt.alloc(), task), (Ok(true), (5, 4, 7)));
 }
 
 /// Spawns two tasks, of the numbers 0 and 1, on a built runtime, and runs a main task beside them.
@@ -61,11 +45,6 @@ fn output(answer: Joined) -> u64 {
     answer.unwrap_or(100)
 }
 
-/// Returns the sum of two outputs.
-fn outputs(both: (Joined, Joined)) -> u64 {
-    output(both.0).saturating_add(output(both.1))
-}
-
 fn passes(_: &Joined) -> bool {
     true
 }
@@ -92,17 +71,4 @@ fn a_handle_that_loses_a_select_is_dropped(rt: HostRuntime) {
         select.right_future(),
     );
     assert_eq!(rt; ended, (Ok(1), (5, 1, 3)));
-}
-
-#[test]
-fn two_handles_join(rt: HostRuntime) {
-    let join = Join2::new(JoinHandle::of_task(0), JoinHandle::of_task(1)).map(outputs);
-    let ended = run_beside_two(
-        &rt,
-        rt.alloc(),
-        millis(3).map(one).left_future(),
-        millis(6).map(one).left_future(),
-        join.right_future(),
-    );
-    assert_eq!(rt; ended, (Ok(2), (7, 2, 6)));
 }

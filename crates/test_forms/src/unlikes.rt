@@ -1,8 +1,7 @@
-// Selects of three to five unlike futures as main tasks of built runtimes.
+// A select of five unlike futures as a main task of a built runtime. One of three or four is a select of a list, too.
 use crate::chains::run;
-use mono_combine::{Out3, Out4, Out5, Start, select3, select4, select5};
-use mono_forms::{FutureExt, pending, ready};
-use mono_model::FastRand;
+use mono_combine::{Out5, Start, select5};
+use mono_forms::{FutureExt, ready};
 use mono_time::{SleepError, SleepFor, sleep_for};
 use std::time::Duration;
 
@@ -13,90 +12,8 @@ fn millis(count: u64) -> SleepFor {
     sleep_for(Duration::from_millis(count))
 }
 
-fn three(_: Slept) -> u64 {
-    3
-}
-
-fn a_letter(_: Slept) -> char {
-    'c'
-}
-
 fn none_left() -> u64 {
     99
-}
-
-/// The outputs of three branches.
-type Three = Out3<Slept, u64, bool>;
-
-fn any_of_three(_: u32, _: &Three) -> bool {
-    true
-}
-
-/// Returns 1 for the first branch, and the second one's output.
-fn value_of_three(_: u32, out: Three) -> u64 {
-    match out {
-        Out3::First(_) => 1,
-        Out3::Second(count) => count,
-        Out3::Third(_) => 0,
-    }
-}
-
-// A select of the first two branches would wait for 5 ms if the second is left out.
-#[test]
-fn the_body_of_three_sees_the_branch(rt: HostRuntime) {
-    let alloc = rt.alloc();
-    for (mask, told) in [
-        (0u64, (Ok(3u64), (2, 1, 3))),
-        (2, (Ok(1), (2, 1, 5))),
-        (7, (Ok(99), (1, 0, 0))),
-    ] {
-        let select = select3(
-            alloc,
-            millis(5),
-            millis(3).map(three),
-            pending::<bool>(),
-            any_of_three,
-            mask,
-            Start::Biased,
-        );
-        let task = select
-            .ok()
-            .expect(&rt, "memory")
-            .with_body(value_of_three, none_left);
-        assert_eq!(rt; run(&rt, alloc, task), told);
-    }
-}
-
-/// The outputs of four branches.
-type Four = Out4<Slept, bool, u64, char>;
-
-fn any_of_four(_: u32, _: &Four) -> bool {
-    true
-}
-
-fn number_of_four(number: u32, _: Four) -> u64 {
-    number as u64
-}
-
-// The third branch answers first, after 3 ms.
-#[test]
-fn the_first_of_four_answers(rt: HostRuntime) {
-    let alloc = rt.alloc();
-    let select = select4(
-        alloc,
-        millis(5),
-        pending::<bool>(),
-        millis(3).map(three),
-        millis(6).map(a_letter),
-        any_of_four,
-        0,
-        Start::Random(FastRand::new(7)),
-    );
-    let task = select
-        .ok()
-        .expect(&rt, "memory")
-        .with_body(number_of_four, none_left);
-    assert_eq!(rt; run(&rt, alloc, task), (Ok(2), (2, 1, 3)));
 }
 
 /// The outputs of five branches.
