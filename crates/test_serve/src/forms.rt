@@ -11,7 +11,12 @@ use std::process::Abort;
 use std::time::Duration;
 
 /// Runs a main task on a runtime of its own, whose tasks share this value.
-fn run<F, O, W, R: Host + Abort>(rt: &R, alloc: Global, shared: W, future: F) -> Result<O, RunError>
+pub(crate) fn run<F, O, W, R: Host + Abort>(
+    rt: &R,
+    alloc: Global,
+    shared: W,
+    future: F,
+) -> Result<O, RunError>
 where
     F: TaskFuture<Cx<F, O, NoPool, NoUnpark, W>, Output = O> + Drop,
     O: Outcome + Drop,

@@ -1,6 +1,6 @@
 // A future that a second task polls waits for that task from then on, at the line's end. The first task is woken.
 use mono_rt::SharedState;
-use mono_serve::{Claimed, Leases, Looked, Mailboxes, Received};
+use mono_serve::{Buckets, Claimed, Leases, Looked, Mailboxes, Received};
 use mono_time::Instant;
 use std::alloc::Global;
 
@@ -96,18 +96,11 @@ fn message_goes_to_the_task_that_came_first(rt: HostRuntime) {
     );
 }
 
-// A task that comes after a message was sent does not overtake the one that was called for it.
 #[test]
-fn late_receiver_does_not_overtake(rt: HostRuntime) {
-    let mut mail: Mailboxes<u64> = Mailboxes::new(rt.alloc(), 1, 2).expect(&rt, "memory");
-    let actor = mail.spawn(rt.alloc()).expect(&rt, "an actor");
-    assert!(rt; matches!(mail.receive(None, actor, 1), Received::Waits(0)));
-    assert!(rt; mail.send(actor, actor, 5).is_ok());
-    assert!(rt; matches!(mail.receive(None, actor, 2), Received::Waits(1)));
-    assert!(rt; mail.send(actor, actor, 6).is_ok());
-    assert_eq!(rt; mail.next_owed(), Some(1));
-    assert_eq!(rt; mail.next_owed(), None);
-    assert!(rt; matches!(mail.receive(Some(0), actor, 1), Received::Got(0, 5)));
-    assert_eq!(rt; mail.next_owed(), Some(2));
-    assert!(rt; matches!(mail.receive(Some(1), actor, 2), Received::Got(0, 6)));
+fn tokens_go_to_the_task_that_polled_last(rt: HostRuntime) {
+    let mut buckets = Buckets::new(rt.alloc(), 1).expect(&rt, "memory");
+    assert!(rt; matches!(buckets.enter(None, 0, 1), Ok(0)));
+    assert!(rt; matches!(buckets.enter(None, 0, 2), Ok(1)));
+    assert!(rt; matches!(buckets.enter(Some(1), 0, 3), Ok(2)));
+    assert_eq!(rt; handed(&mut buckets), [Some(2), None, None]);
 }

@@ -2,8 +2,6 @@
 #![tactic(auto)]
 
 #[cfg(test)]
-mod desks;
-#[cfg(test)]
 mod forms;
 #[cfg(test)]
 mod handovers;
@@ -12,8 +10,6 @@ mod many;
 #[cfg(test)]
 mod outsides;
 #[cfg(test)]
-mod parties;
-#[cfg(test)]
 mod peers;
 #[cfg(test)]
-mod runs;
+mod shares;

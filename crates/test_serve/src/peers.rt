@@ -1,13 +1,8 @@
 // Tasks that wait for each other through a channel which they share, by futures that keep the number of their task.
-ghost use Rattle.std.specs.Prelude.{[], refl, ⊤};
-ghost use Rattle.mono_sync.specs.Mpsc.{owed_by, listed_by, waiting_in};
-ghost use Rattle.mono_sync.specs.Listed.{channel_some};
-
 use mono_rt::{
-    Host, NoPool, Poll, Runtime, RuntimeBuilder, SharedContext, SharedState, StepDriver,
-    TaskFuture, TimeDriver,
+    Host, NoPool, Poll, Runtime, RuntimeBuilder, SharedContext, StepDriver, TaskFuture, TimeDriver,
 };
-use mono_sync::Holds;
+use mono_sync::Only;
 use mono_sync::mpsc::{Channel, Recv, Send};
 use mono_wait::ByTask;
 use std::alloc::Global;
@@ -15,54 +10,7 @@ use std::mem;
 use std::process::Abort;
 
 /// A channel for one number.
-#[derive(Drop)]
-struct Shelf {
-    channel: Channel<u64>,
-}
-
-/// It promises nothing.
-impl SharedState for Shelf {
-    ghost leads = { λ a b. ⊤ };
-
-    ghost lists = { λ a. listed_by a.channel };
-
-    ghost waiting = { λ a. waiting_in a.channel };
-
-    ghost owes = { λ a. owed_by a.channel };
-
-    #[inline(always)]
-    fn next_owed(&mut self) -> Option<u64> {
-        self.channel.next_owed()
-    }
-
-    ghost leads_itself = { λ a. tt };
-
-    ghost leads_on = { λ a b c p q. tt };
-
-    ghost lists_some = { λ a. channel_some a.channel };
-}
-
-impl Holds<Channel<u64>> for Shelf {
-    ghost part = { λ w. w.channel };
-
-    ghost with_part = { λ w x. record w { channel = x } };
-
-    fn part_mut(&mut self) -> &mut Channel<u64> {
-        &mut self.channel
-    }
-
-    ghost part_with = { λ w x. refl };
-
-    ghost place = { [] };
-
-    ghost leads_with = { λ w x led. tt };
-
-    ghost keeps_with = { λ me w x kept. kept };
-
-    ghost lists_part = { λ w p t is. is };
-
-    ghost owes_part = { λ w none. none };
-}
+type Shelf = Only<Channel<u64>>;
 
 /// A task that sends numbers, or a task that receives them.
 #[derive(Drop)]
@@ -195,8 +143,8 @@ impl<C: SharedContext<Shelf>> TaskFuture<C> for Peer {
 fn digits<R: Host + Abort>(rt: &R, alloc: Global) -> u64 {
     let driver = TimeDriver::new(StepDriver::new(Vec::new(alloc)));
     let builder: RuntimeBuilder<TimeDriver<StepDriver>, NoPool> = RuntimeBuilder::new(driver);
-    let shelf = Shelf {
-        channel: Channel::new(alloc, 1),
+    let shelf = Only {
+        part: Channel::new(alloc, 1),
     };
     let made: Runtime<Peer, u64, TimeDriver<StepDriver>, NoPool, Shelf> = builder
         .build_sharing(alloc, shelf)
