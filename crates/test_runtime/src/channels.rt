@@ -1,4 +1,3 @@
 // The channel between runtimes: tasks that send and receive.
 mod closes;
-mod lanes;
 mod receives;

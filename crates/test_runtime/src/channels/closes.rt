@@ -1,9 +1,8 @@
 // Senders on two threads that wait when the receiver closes the channel.
-
-use crate::channels::lanes::driver;
 use mono_channel::{Receiver, Sender, channel};
 use mono_rt::{
-    Host, NoPool, Poll, RemoteContext, RemoteWaker, RunError, TaskFuture, UnparkHandle, start,
+    Host, Instant, ListClock, NoPool, Poll, RemoteContext, RemoteWaker, RunError, TaskFuture,
+    ThreadDriver, UnparkHandle, start,
 };
 use std::alloc::Global;
 use std::process::Abort;
@@ -53,6 +52,12 @@ impl<C: RemoteContext<UnparkHandle>> TaskFuture<C> for Holder {
     }
 
     fn cancel(self, _cx: &mut C) {}
+}
+
+// A driver that parks its thread, and whose clock always reads 0: no task sleeps.
+fn driver<R: Abort>(rt: &R, alloc: Global) -> ThreadDriver<ListClock> {
+    let readings = vec![in alloc; Instant::ZERO].expect(rt, "memory");
+    ThreadDriver::new(alloc, ListClock::new(readings)).expect(rt, "memory")
 }
 
 // Runs a sender on a runtime of this thread. It is counted as waiting if it ended before it waited.
