@@ -2,6 +2,8 @@
 #![tactic(auto)]
 
 #[cfg(test)]
+mod channel_forms;
+#[cfg(test)]
 mod forms;
 #[cfg(test)]
 mod handovers;
@@ -11,5 +13,7 @@ mod many;
 mod outsides;
 #[cfg(test)]
 mod peers;
+#[cfg(test)]
+mod requests;
 #[cfg(test)]
 mod shares;

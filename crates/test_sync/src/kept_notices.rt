@@ -1,6 +1,6 @@
 // A notice to one that stays with its future, whether its task was woken or not.
-use mono_rt::SharedState;
 use mono_sync::{Notify, Notifying};
+use mono_task::SharedState;
 
 // Returns the ticket of a future of this task that waits from now on.
 fn drawn(notify: &mut Notify, by: u64) -> Option<u64> {

@@ -3,11 +3,15 @@
 #![tactic(auto)]
 
 #[cfg(test)]
+mod channels;
+#[cfg(test)]
 mod kept_notices;
 #[cfg(test)]
 mod locks;
 #[cfg(test)]
 mod many;
+#[cfg(test)]
+mod memory;
 #[cfg(test)]
 mod notices;
 #[cfg(test)]

@@ -1,5 +1,12 @@
-// Far more waits than a lock has room for at first: a lock that gives up at some length answers Memory here. The laws of
-// the locks decide the rest.
+// Locks, barriers, cells that are set once, and broadcasts: tables of calls, and far more waits than a lock has room for at
+// first. A lock that gives up at some length answers Memory here.
+mod barriers;
+mod broadcasts;
+mod cells;
+mod memory;
+mod mutexes;
+mod rw_locks;
+
 use mono_locks::Asked;
 use mono_locks::barrier::Barrier;
 use mono_locks::broadcast::Broadcast;

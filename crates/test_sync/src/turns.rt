@@ -7,7 +7,9 @@ ghost use Rattle.test_sync.specs.Turns.{keeps_on};
 
 mod by_key;
 mod enabled;
+mod keyed_channels;
 mod kinds;
+mod refused;
 mod singles;
 
 use mono_model::{Host, Poll};

@@ -1,9 +1,8 @@
-// Futures and calls by key. Each table has parts with the keys 0 and 1. A call at the key 1 serves the future that waits
+// Futures and calls by key, but those of channels. Each table has parts with the keys 0 and 1. A call at the key 1 serves the future that waits
 // there, and the one before it, at the key 0, does not.
 //
 // The tests catch a future or a call that answers `Memory` at once, and a table that owes no wake.
 use crate::turns::Turn;
-use mono_sync::mpsc::{self, Channel, SendAt};
 use mono_sync::oneshot::{self, Oneshot};
 use mono_sync::watch::{ChangedAt, Watch};
 use mono_sync::{AcquireAt, Many, NotifiedAt, Notify, Only, Semaphore, acts, make};
@@ -12,13 +11,18 @@ use std::alloc::Global;
 use std::process::Abort;
 
 /// A shared value: parts of one kind under keys.
-type Parts<X> = Only<Many<X>>;
+pub(crate) type Parts<X> = Only<Many<X>>;
 
 /// A turn of a task that shares parts of one kind.
-type On<X> = Turn<Parts<X>>;
+pub(crate) type On<X> = Turn<Parts<X>>;
 
 // A turn on a table with these parts, which have the keys 0 and 1.
-fn turn_on<R: Abort, X: SharedState + Drop>(rt: &R, alloc: Global, first: X, second: X) -> On<X> {
+pub(crate) fn turn_on<R: Abort, X: SharedState + Drop>(
+    rt: &R,
+    alloc: Global,
+    first: X,
+    second: X,
+) -> On<X> {
     let mut turn = Turn {
         task: 7,
         shared: Only {
@@ -29,20 +33,6 @@ fn turn_on<R: Abort, X: SharedState + Drop>(rt: &R, alloc: Global, first: X, sec
     let has_second = matches!(make::<Parts<X>, X, On<X>>(&mut turn, alloc, second), Ok(1));
     assert!(rt; has_first & has_second);
     turn
-}
-
-#[test]
-fn channels(rt: HostRuntime) {
-    let alloc = rt.alloc();
-    let mut turn = turn_on(&rt, alloc, Channel::new(alloc, 1), Channel::new(alloc, 1));
-    let sent = mpsc::try_send_at::<Parts<Channel<u64>>, u64, On<Channel<u64>>>(&mut turn, 0, 10);
-    let recv: mpsc::RecvAt<Parts<Channel<u64>>, u64> = mpsc::RecvAt::new(1);
-    let answer = turn.served(&rt, alloc, recv, acts::try_send_at(1, 20));
-    assert!(rt; sent.is_ok() & matches!(answer, Some(Ok(Some(20)))));
-    assert!(rt; turn.makes(&rt, alloc, acts::try_send_at(1, 21)));
-    let send: SendAt<Parts<Channel<u64>>, u64> = SendAt::new(1, 22);
-    let answer = turn.served(&rt, alloc, send, acts::try_recv_at(1));
-    assert!(rt; matches!(answer, Some(Ok(()))));
 }
 
 #[test]

@@ -1,0 +1,81 @@
+// A lock for readers and writers.
+use mono_locks::Asked;
+use mono_locks::rwlock::{RwLock, RwLockReadGuard, RwLockWriteGuard};
+use mono_task::SharedState;
+use std::process::Abort;
+
+// The guard of a future that asked.
+fn got<R: Abort, G: Drop>(rt: &R, answer: Asked<G>) -> G {
+    match answer {
+        Asked::Got(guard) => guard,
+        _ => panic!(rt; "no guard"),
+    }
+}
+
+// Returns whether a reading future of this task waits from now on, with this ticket.
+fn reads_later(lock: &mut RwLock<u64>, by: u64, ticket: u64) -> bool {
+    matches!(lock.read(None, by), Asked::Joined(had) if had == ticket)
+}
+
+// Returns whether a writing future of this task waits from now on, with this ticket.
+fn writes_later(lock: &mut RwLock<u64>, by: u64, ticket: u64) -> bool {
+    matches!(lock.write(None, by), Asked::Joined(had) if had == ticket)
+}
+
+/// Many read at once. A writer waits for all of them, and no later reader overtakes it.
+///
+/// It catches a definition by which a writer has room beside a reader, or a reader overtakes a writer.
+#[test]
+fn a_writer_is_not_overtaken(rt: HostRuntime) {
+    let mut lock = RwLock::new(rt.alloc(), 10u64);
+    let one = lock.try_read().ok().expect(&rt, "one reads");
+    let other = got(&rt, lock.read(None, 1));
+    assert_eq!(rt; (lock.readers(), lock.is_written()), (2, false));
+    assert!(rt; lock.try_write().is_err() && writes_later(&mut lock, 2, 0));
+    assert!(rt; lock.try_read().is_err() && reads_later(&mut lock, 3, 1));
+    assert!(rt; lock.end_read(one).is_ok() && lock.next_owed().is_none());
+    assert!(rt; lock.end_read(other).is_ok() && lock.next_owed() == Some(2));
+    assert!(rt; lock.try_read().is_err() && lock.next_owed().is_none());
+    let mut written = got(&rt, lock.write(Some(0), 2));
+    assert!(rt; lock.is_written() && lock.get().is_none());
+    *written.get_mut() = 11;
+    assert!(rt; lock.end_write(written).is_ok() && lock.next_owed() == Some(3));
+    let last = got(&rt, lock.read(Some(1), 3));
+    assert!(rt; matches!(lock.get(), Some(11)));
+    assert!(rt; lock.end_read(last).is_ok() && lock.waiting() == 0);
+    assert!(rt; matches!(lock.into_inner(), Some(11)));
+}
+
+/// A writer that is given up, while it waits or after it was woken, lets the readers behind it go on.
+///
+/// It catches a definition by which a writer that was given up keeps room for itself.
+#[test]
+fn a_writer_is_given_up(rt: HostRuntime) {
+    let mut lock = RwLock::new(rt.alloc(), 10u64);
+    let one = got(&rt, lock.read(None, 0));
+    assert!(rt; writes_later(&mut lock, 1, 0) && reads_later(&mut lock, 2, 1));
+    lock.give_up_write(Some(0), 1);
+    assert!(rt; lock.next_owed() == Some(2));
+    let two = got(&rt, lock.read(Some(1), 2));
+    assert!(rt; writes_later(&mut lock, 3, 2) && reads_later(&mut lock, 4, 3));
+    assert!(rt; lock.end_read(one).is_ok() && lock.end_read(two).is_ok());
+    assert!(rt; lock.next_owed() == Some(3));
+    lock.give_up_write(Some(2), 3);
+    assert!(rt; lock.next_owed() == Some(4));
+    lock.give_up_read(Some(3), 4);
+    assert!(rt; lock.next_owed().is_none() && lock.try_write().is_ok());
+}
+
+/// A guard that no lock gave out is refused.
+///
+/// It catches a lock that counts a reader too few, or loses its value.
+#[test]
+fn a_foreign_guard(rt: HostRuntime) {
+    let mut one = RwLock::new(rt.alloc(), 1u64);
+    let mut other = RwLock::new(rt.alloc(), 2u64);
+    let read: RwLockReadGuard<u64> = got(&rt, one.read(None, 0));
+    assert!(rt; other.end_read(read).is_err() && other.readers() == 0);
+    let written: RwLockWriteGuard<u64> = got(&rt, other.write(None, 0));
+    assert_eq!(rt; *written.get(), 2);
+    assert!(rt; one.end_write(written).is_err() && matches!(one.get(), Some(1)));
+}
