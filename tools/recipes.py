@@ -4,9 +4,9 @@
 usage: tools/recipes.py
 
 A line of a recipe names files, with a comma between two, and after two blanks says what belongs there. A file is one of
-docs/ or begins with its crate. One that begins with src/, specs/ or proofs/ is of the line's last crate, or else of that of
-the recipe's heading; one without a folder lies beside the file before it. A pattern with NAME is passed over. The script
-prints each name that is wrong, and fails if there is one.
+docs/ or tools/, or begins with its crate. One that begins with src/, specs/ or proofs/ is of the line's last crate, or else
+of that of the recipe's heading; one without a folder lies beside the file before it. A pattern with NAME is passed over. The
+script prints each name that is wrong, and fails if there is one.
 """
 import glob
 import os
@@ -21,7 +21,7 @@ PARTS = ("src", "specs", "proofs")
 
 def path_of(name, crate, folder):
     """Returns the path of a file by its name, with the crate and the folder of the file before it."""
-    if name.startswith("docs/"):
+    if name.startswith(("docs/", "tools/")):
         return name
     if name.split("/")[0] in PARTS:
         return os.path.join("crates", crate, name)
