@@ -1,6 +1,7 @@
 // The whole program, over its streams.
 ghost use Rattle.std.specs.Prelude.{◌≡◌, ◌≢◌, ◌⊎◌, ℕ, IfErr, IfNone, IfOk, IfSome, drop, false, map, remove, string_bytes};
 ghost use Rattle.std.specs.IoError.{error_kind};
+ghost use Rattle.std.specs.Process.{exit_status};
 ghost use Rattle.std.specs.declared.io.ErrorKind.TheVariants.{OutOfMemory};
 ghost use Rattle.mono_script.specs.TopCall.{CarriesOut, view_of};
 ghost use Rattle.mono_main.specs.Causes.{Notices, Says, TellsCause, TellsStatus, end_status};
@@ -21,6 +22,7 @@ use mono_script::{
     follow_command, joins_workers, reads_input, words_behind,
 };
 use std::alloc::Global;
+use std::process::ExitCode;
 use std::{format, io};
 
 // Returns the first of the words, or an empty one if there is none.
@@ -213,13 +215,13 @@ fn unread<E: Sink>(alloc: Global, error: &io::Error, causes: &mut E) -> u8
     }
 }
 
-/// Does all that the program does, and returns the number with which it exits. `called` are the words of its call, with
+/// Does all that the program does, and returns the exit code with which `main` ends. `called` are the words of its call, with
 /// its name first. `waits` says whether a person is at the terminal. The answer goes to `sink`, and each cause to
 /// `causes`.
 ///
 /// It makes one of three calls (`Exits`, `specs/Exits`): it writes the page for which the words ask, or answers each
-/// line as soon as it was read if the second word is `--follow`, or carries out the command. The number is that of the
-/// call's status.
+/// line as soon as it was read if the second word is `--follow`, or carries out the command. The code's number is
+/// that of the call's status.
 ///
 /// `says` ties the causes to the number: nothing is said of 0, or of a closed pipe, and each other status has a line. A
 /// write of a cause that fails changes no status. Unless memory ran out, no thread of the spawner is left running
@@ -235,7 +237,7 @@ pub fn exits<S, K, E, C, P, R>(
     causes: &mut E,
     clock: C,
     spawner: &mut P,
-) -> u8
+) -> ExitCode
 where
     S: Source + Explains,
     K: Sink + Explains,
@@ -245,21 +247,21 @@ where
     R: Host + Send + 'static,
     ensures exits { IfOk called (λ all. Exits (map string_bytes (drop 1 all.items)) (map string_bytes (remove (drop 1 all.items) 1))
         (C.readings clock) (view_of (S.left source.old) (S.faults source.old) (K.written sink.old) (K.faults sink.old) (P.starts spawner.old))
-        (view_of (S.left source.new) (S.faults source.new) (K.written sink.new) (K.faults sink.new) (P.starts spawner.new)) result) }
-    ensures says { IfOk called (λ _. Says waits result (K.closed sink.new) (E.written causes.old) (E.written causes.new) (E.faults causes.old) (E.faults causes.new)) }
-    ensures joined { P.running spawner.old ≡ 0 → result ≢ 6 → P.running spawner.new ≡ 0 }
-    ensures memory { IfErr called (λ error. error_kind error ≡ OutOfMemory → result ≡ 6) }
-    ensures other { IfErr called (λ error. error_kind error ≢ OutOfMemory → result ≡ 2) }
+        (view_of (S.left source.new) (S.faults source.new) (K.written sink.new) (K.faults sink.new) (P.starts spawner.new)) (exit_status result)) }
+    ensures says { IfOk called (λ _. Says waits (exit_status result) (K.closed sink.new) (E.written causes.old) (E.written causes.new) (E.faults causes.old) (E.faults causes.new)) }
+    ensures joined { P.running spawner.old ≡ 0 → exit_status result ≢ 6 → P.running spawner.new ≡ 0 }
+    ensures memory { IfErr called (λ error. error_kind error ≡ OutOfMemory → exit_status result ≡ 6) }
+    ensures other { IfErr called (λ error. error_kind error ≢ OutOfMemory → exit_status result ≡ 2) }
     ensures told { IfErr called (λ _. TellsCause (E.written causes.old) (E.written causes.new) (E.faults causes.old) (E.faults causes.new)) }
     ensures untouched { IfErr called (λ _. (source.new ≡ source.old) × (sink.new ≡ sink.old) × (spawner.new ≡ spawner.old)) }
 {
     match called {
         Ok(all) => {
             let words = words_behind(all);
-            exit_of(
+            ExitCode::from(exit_of(
                 rt, alloc, words, waits, source, sink, causes, clock, spawner,
-            )
+            ))
         }
-        Err(error) => unread(alloc, &error, causes),
+        Err(error) => ExitCode::from(unread(alloc, &error, causes)),
     }
 }

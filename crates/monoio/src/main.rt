@@ -1,4 +1,4 @@
-//! The program: its words and streams to the number with which it exits.
+//! The program: its words and streams to its exit code.
 #![tactic(auto)]
 
 use mono_main::{JoinSpawner, exits};
@@ -16,7 +16,7 @@ fn words(rt: &HostRuntime) -> io::Result<Vec<String>> {
 
 fn main(rt: HostRuntime) -> ExitCode {
     let stdin = rt.stdin();
-    ExitCode::from(exits(
+    exits(
         &rt,
         rt.alloc(),
         words(&rt),
@@ -26,5 +26,5 @@ fn main(rt: HostRuntime) -> ExitCode {
         &mut WriteSink::new(rt.stderr()),
         SystemClock::new(rt),
         &mut JoinSpawner::new(rt.alloc()),
-    ))
+    )
 }

@@ -6,6 +6,7 @@ use mono_script::{ListClock, MemSink, MemSource};
 use mono_text::WriteSink;
 use std::alloc::Global;
 use std::io::{self, ErrorKind, Write};
+use std::process::ExitCode;
 
 /// A call with its input, and the expected number, output and causes.
 #[derive(Clone, Copy)]
@@ -184,7 +185,7 @@ fn is_met<R: Host + Send + 'static>(
         &mut spawner,
     );
     let is_told = sink.bytes() == row.output && causes.bytes() == row.causes;
-    Some(status == row.status && is_told && spawner.running() == 0)
+    Some(status == ExitCode::from(row.status) && is_told && spawner.running() == 0)
 }
 
 // Returns the first of the rows that is not met.
@@ -273,7 +274,7 @@ fn without_reader<R: Host + Send + 'static>(
     rt: &R,
     alloc: Global,
     called: io::Result<Vec<String>>,
-) -> Option<(u8, bool)> {
+) -> Option<(ExitCode, bool)> {
     let Streams {
         mut source,
         sink: _,
@@ -300,13 +301,13 @@ fn without_reader<R: Host + Send + 'static>(
 fn a_closed_pipe_is_no_cause(rt: HostRuntime) {
     let called = split(rt.alloc(), "monoio replay attached 1 1 1");
     let called = called.map_err(|_| io::Error::from(ErrorKind::OutOfMemory));
-    assert!(&rt; without_reader(&rt, rt.alloc(), called) == Some((5, true)));
+    assert!(&rt; without_reader(&rt, rt.alloc(), called) == Some((ExitCode::from(5), true)));
 }
 
 #[test]
 fn words_that_cannot_be_read_have_a_status(rt: HostRuntime) {
     let memory = Err(io::Error::from(ErrorKind::OutOfMemory));
-    assert!(&rt; without_reader(&rt, rt.alloc(), memory) == Some((6, false)));
+    assert!(&rt; without_reader(&rt, rt.alloc(), memory) == Some((ExitCode::from(6), false)));
     let other = Err(io::Error::from(ErrorKind::InvalidData));
-    assert!(&rt; without_reader(&rt, rt.alloc(), other) == Some((2, false)));
+    assert!(&rt; without_reader(&rt, rt.alloc(), other) == Some((ExitCode::from(2), false)));
 }
