@@ -1,5 +1,5 @@
 use Rattle.std.proofs.Common.{◌≡◌, ◌<◌, ◌+◌, ◌==◌, ℕ, true, length, sum, ap, ◌∙◌, sym, subst, arith, rules}
-use Rattle.std.specs.Prelude.{IfSome}
+use Rattle.std.specs.Prelude.{IfOk}
 use Rattle.mono_rt.proofs.PollableLemmas.{every_turn}
 use Rattle.example_channels.proofs.ProgramLemmas.{this_can}
 use Rattle.example_channels.proofs.SumLemmas.{sums_agree}
@@ -14,7 +14,7 @@ block_on-requires-clause-callable g c = this_can (block_on-requires-clause-other
 
 pub returns : goal.returns
 returns g c =
-    let built : c.in_ok-runtime.runtime.cx.shared ≡ record { part = c.new-part.result } = search rules in
+    let built : c.in_ok-runtime.runtime.cx.shared ≡ record { part = c.new-part.result } = subst (λ r. IfOk r (λ made. made.cx.shared ≡ record { part = c.new-part.result })) c.in_ok-runtime.ensures.value c.build_sharing.ensures.shared in
     let same = ap (λ w. w.part) (c.spawn.ensures.shared ∙ built) in
     let queue = ap (λ a. sum a.channel.queue.items) same ∙ ap sum c.new-part.ensures.queue in
     let sent = ap (λ a. a.tally.sent) same ∙ ap (λ t. t.sent) c.new-part.ensures.tally in
