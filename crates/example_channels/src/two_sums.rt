@@ -9,13 +9,12 @@ use mono_sync::{Only, acts};
 use std::alloc::{AllocError, Global};
 
 /// The sums of the sent and of the received messages. They stay at the greatest number.
-#[derive(Drop)]
+#[derive(Default, Drop)]
 pub struct Sums {
     sent: u64,
     received: u64,
 }
 
-/// The received messages and the queued ones sum to the sent ones.
 impl Tally<u64> for Sums {
     ghost rule = { λ s queue. s.sent < 2 ^ 64 - 1 → s.received + sum queue ≡ s.sent };
 
@@ -50,9 +49,10 @@ pub fn two_sums<R: Host>(rt: &R, alloc: Global, bound: usize, count: u64) -> Opt
     });
     let [producer, consumer] = [producer.left_future(), consumer.right_future()];
     let builder: RuntimeBuilder<_, NoPool> = RuntimeBuilder::new(StepDriver::new(Vec::new(alloc)));
-    let [sent, received] = [0, 0];
-    let part = Tallied::new(alloc, bound, Sums { sent, received });
-    let mut runtime = builder.build_sharing(alloc, Only { part }).ok()?;
+    let part = Tallied::new(alloc, bound, Sums::default());
+    let Ok(mut runtime) = builder.build_sharing(alloc, Only { part }) else {
+        return None;
+    };
     runtime.spawn(alloc, producer).ok()?;
     runtime.block_on(rt, alloc, consumer, 1000).ok()?;
     let Only { part } = runtime.shared();

@@ -1,5 +1,4 @@
 use Rattle.std.proofs.Common.{◌≡◌, ◌<◌, ◌+◌, ◌==◌, ℕ, true, length, sum, ap, ◌∙◌, sym, subst, arith, rules}
-use Rattle.std.specs.Prelude.{IfOk}
 use Rattle.mono_rt.proofs.PollableLemmas.{every_turn}
 use Rattle.example_channels.proofs.ProgramLemmas.{this_can}
 use Rattle.example_channels.proofs.SumLemmas.{sums_agree}
@@ -14,11 +13,10 @@ block_on-requires-clause-callable g c = this_can (block_on-requires-clause-other
 
 pub returns : goal.returns
 returns g c =
-    let built : c.in_ok-runtime.runtime.cx.shared ≡ record { part = c.new-part.result } = subst (λ r. IfOk r (λ made. made.cx.shared ≡ record { part = c.new-part.result })) c.in_ok-runtime.ensures.value c.build_sharing.ensures.shared in
-    let same = ap (λ w. w.part) (c.spawn.ensures.shared ∙ built) in
+    let same = ap (λ w. w.part) (c.spawn.ensures.shared ∙ c.in-Ok.ensures.shared) in
     let queue = ap (λ a. sum a.channel.queue.items) same ∙ ap sum c.new-part.ensures.queue in
     let sent = ap (λ a. a.tally.sent) same ∙ ap (λ t. t.sent) c.new-part.ensures.tally in
     let received = ap (λ a. a.tally.received) same ∙ ap (λ t. t.received) c.new-part.ensures.tally in
-    let kept = c.block_on.ensures.shared.1 (λ exact. omega (arith, queue, sent, received)) in
+    let kept = c.block_on.ensures.shared.1 (λ exact. omega (arith, queue, sent, received, c.default.ensures)) in
     let agree = sums_agree (c.len.result == 0) c.block_on.new.self.cx.shared.part.channel.queue.items c.block_on.new.self.cx.shared.part.tally.sent c.block_on.new.self.cx.shared.part.tally.received (λ e. omega (arith, e, c.len.ensures ∙ ap (λ w. length w.part.channel.queue.items) c.shared.ensures)) kept in
     rw c.then_some.ensures (rw c.shared.ensures agree)
