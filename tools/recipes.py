@@ -45,8 +45,8 @@ def lost_files(recipe):
 
 
 def lost_patterns(page):
-    """Returns the patterns that the page searches for in the crates, and that nothing has."""
-    found = re.findall(r"`grep -rnE '([^']+)' crates`", page)
+    """Returns the patterns that the page searches for, and that nothing in the crates has."""
+    found = re.findall(r"`git grep -\w+ '([^']+)'", page)
     lost = {pattern: re.compile(pattern) for pattern in found if "NAME" not in pattern}
     for path in glob.glob("crates/*/**/*", recursive=True):
         if lost and path.endswith((".rt", ".antt")) and "/out/" not in path:
