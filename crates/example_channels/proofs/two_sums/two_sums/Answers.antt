@@ -1,4 +1,5 @@
-use Rattle.std.proofs.Common.{◌≡◌, ◌<◌, ◌+◌, ◌==◌, ℕ, true, length, sum, ap, ◌∙◌, sym, subst, arith, rules}
+use Rattle.std.proofs.Common.{◌==◌, length, sum, ap, ◌∙◌, arith, rules}
+use Rattle.std.proofs.lemmas.Bool.{eqb-true}
 use Rattle.mono_rt.proofs.PollableLemmas.{every_turn}
 use Rattle.example_channels.proofs.ProgramLemmas.{this_can}
 use Rattle.example_channels.proofs.SumLemmas.{sums_agree}
@@ -18,5 +19,5 @@ returns g c =
     let sent = ap (λ a. a.tally.sent) same ∙ ap (λ t. t.sent) c.new-part.ensures.tally in
     let received = ap (λ a. a.tally.received) same ∙ ap (λ t. t.received) c.new-part.ensures.tally in
     let kept = c.block_on.ensures.shared.1 (λ exact. omega (arith, queue, sent, received, c.default.ensures)) in
-    let agree = sums_agree (c.len.result == 0) c.block_on.new.self.cx.shared.part.channel.queue.items c.block_on.new.self.cx.shared.part.tally.sent c.block_on.new.self.cx.shared.part.tally.received (λ e. omega (arith, e, c.len.ensures ∙ ap (λ w. length w.part.channel.queue.items) c.shared.ensures)) kept in
+    let agree = sums_agree (c.len.result == 0) c.block_on.new.self.cx.shared.part.channel.queue.items c.block_on.new.self.cx.shared.part.tally.sent c.block_on.new.self.cx.shared.part.tally.received (λ e. omega (arith, eqb-true c.len.result 0 e, c.len.ensures ∙ ap (λ w. length w.part.channel.queue.items) c.shared.ensures)) kept in
     rw c.then_some.ensures (rw c.shared.ensures agree)
