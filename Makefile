@@ -9,6 +9,7 @@
 #   make examples    builds the program, and compares each example's reports, causes and exit status with those stored
 #                    beside it, and the manual page with --help; it fails if a crate example_* never gives up
 #                    something that it holds
+#   make examples-quick  compares reports, causes and statuses by the program that `make test` has built, in seconds
 #   make pages       compiles the first Rust example of each page, and the programs that are kept as text in tools/, unproved;
 #                    the programs have to print the stored lines, and the examples what their pages say; an example that
 #                    names a file has to be in it
@@ -35,12 +36,13 @@
 
 WORDS = replay attached 16 16 16
 EXAMPLE = examples/both_roundings.events
+PROGRAM = bin/monoio
 CRATE =
 SECONDS = 60
 SIZE =
 EVENTS = 100000000
 
-.PHONY: help run build has-rt has-rustc test examples pages soak soak-threads year try bench planted gate-times build-server server server-quick server-bench view-test
+.PHONY: help run build has-rt has-rustc test compare-examples examples examples-quick pages soak soak-threads year try bench planted gate-times build-server server server-quick server-bench view-test
 
 help:
 	@sed -n 's/^#   //p' Makefile
@@ -62,19 +64,25 @@ test: has-rt
 	@! command -v python3 > /dev/null || { python3 tools/sections.py && python3 tools/recipes.py && \
 	    python3 tools/calls.py --check && python3 tools/cookbook.py --check; }
 	rt ci
+	@said=$$($(MAKE) --no-print-directory examples-quick) || { echo "$$said"; exit 1; }
 
-examples: build
+compare-examples:
 	@made=$$(mktemp -d); trap 'rm -r $$made' EXIT; for input in examples/*.events; do \
 	    name=$${input%.events}; \
 	    words=$$(cat $$name.words 2> /dev/null || echo '$(WORDS)'); \
 	    cat $$name.causes 2> /dev/null > $$made/causes; \
-	    status=0; bin/monoio $$words < $$input > $$made/reports 2> $$made/said || status=$$?; \
+	    status=0; $(PROGRAM) $$words < $$input > $$made/reports 2> $$made/said || status=$$?; \
 	    cmp -s $$made/reports $$name.reports || { echo "$$input: not the stored reports"; exit 1; }; \
 	    cmp -s $$made/said $$made/causes || { echo "$$input: not the stored causes"; exit 1; }; \
 	    [ $$status = $$(cat $$name.status 2> /dev/null || echo 0) ] || { echo "$$input: exit status $$status"; exit 1; }; \
 	done; echo 'each example has its stored reports, causes and exit status'
+
+examples: build compare-examples
 	@python3 tools/man_page.py bin/monoio
 	@python3 tools/give_up.py
+
+examples-quick:
+	@[ ! -x crates/monoio/out/monoio ] || $(MAKE) --no-print-directory compare-examples PROGRAM=crates/monoio/out/monoio
 
 pages: has-rt
 	@python3 tools/cookbook.py --check
