@@ -2,6 +2,8 @@ pub mod PermitLemmas
 pub mod MessageLemmas
 pub mod RoomLemmas
 pub mod OnceLemmas
+mod WaitForLemmas
+mod ManyPermitLemmas
 pub mod ServedLemmas
 pub mod PlaceLemmas
 pub mod WaitLemmas

@@ -120,6 +120,7 @@ module _ {T : Type 0} where
   watch_step : (e : watches.Event T) (a b : Watch T) → Rising a.line → watches.Step a e b → Rising b.line
   watch_step (watches.sent x (Ok old)) a b r s = kept_line a.line b.line s.4 r
   watch_step (watches.sent x (Err y)) a b r s = kept_line a.line b.line (ap (λ v. v.line) s.2) r
+  watch_step (watches.edited x) a b r s = kept_line a.line b.line s.2 r
   watch_step (watches.asked seen ticket me (changing.Changed v)) a b r s = leaves_rises a.line b.line ticket me s.2 r
   watch_step (watches.asked seen ticket me changing.Closed) a b r s = leaves_rises a.line b.line ticket me s.2 r
   watch_step (watches.asked seen ticket me changing.Waits) a b r s = comes_rises a.line b.line ticket me 0 Waits s.2 r

@@ -12,6 +12,7 @@ pub mod Notices
 pub mod Watches
 pub mod SemaphoreRuns
 pub mod MpscRuns
+pub mod ManyPermits
 pub mod Laws
 pub mod WaitLaws
 pub mod LineLaws
@@ -21,8 +22,10 @@ pub mod Runs
 pub mod OneshotRuns
 pub mod NoticeRuns
 pub mod WatchRuns
+pub mod Modifies
 pub mod Notifications
 pub mod Changes
+pub mod WaitsFor
 pub mod Deliveries
 pub mod Spent
 pub mod Touched
@@ -38,3 +41,4 @@ pub mod KeyedNotices
 pub mod KeyedChanges
 pub mod Tallies
 pub mod TallySpent
+pub mod KeyedMany

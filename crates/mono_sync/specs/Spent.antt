@@ -12,6 +12,7 @@ use Rattle.mono_sync.specs.declared.keyed_permits.AcquireAt.{AcquireAt}
 use Rattle.mono_sync.specs.declared.keyed_notifications.NotifiedAt.{NotifiedAt}
 use Rattle.mono_sync.specs.declared.keyed_changes.ChangedAt.{ChangedAt}
 use Rattle.mono_sync.specs.declared.changes.Changed.{Changed}
+use Rattle.mono_sync.specs.declared.waiting.WaitFor.{WaitFor}
 use Rattle.mono_sync.specs.declared.acts.performs.AtOnce.{AtOnce}
 use Rattle.mono_sync.specs.Messages.{has_none}
 
@@ -54,6 +55,10 @@ module _ {W T : Type 0} where
 
   abbrev pub changed_at_spent : ChangedAt W T → Bool
   changed_at_spent f = f.has_answered
+
+module _ {W T F : Type 0} where
+  abbrev pub wait_for_spent : WaitFor W T F → Bool
+  wait_for_spent f = f.has_answered
 
 module _ {W A : Type 0} where
   abbrev pub at_once_spent : AtOnce W A → Bool

@@ -30,6 +30,10 @@ module _ {T : Type 0} where
   Sends a x (Ok old) b = (a.is_closed ≡ false) × (b.value ≡ x) × (old ≡ a.value) × (b.version ≡ a.version + 1) × (b.line ≡ a.line) × (b.cleared ≡ a.line.next) × (b.is_closed ≡ false)
   Sends a x (Err y) b = (y ≡ x) × ((a.is_closed ≡ true) ⊎ (2 ^ 64 ≤ a.version + 1)) × (b ≡ a)
 
+  -- The value is changed without another version, and no task is woken.
+  abbrev pub Edits : Watch T → T → Watch T → Type 0
+  Edits a x b = (b.value ≡ x) × (b.version ≡ a.version) × (b.line ≡ a.line) × (b.cleared ≡ a.cleared) × (b.is_closed ≡ a.is_closed)
+
   -- A future of this task that has seen a version asks for another. It leaves the line if there is one, or the value was
   -- closed.
   abbrev pub Changes : Watch T → ℕ → Option ℕ → ℕ → Changing → Watch T → Type 0

@@ -106,7 +106,10 @@ fn ask<W: Holds<Watch<T>>, T: Drop, C: SharedContext<W>>(
 }
 
 // Takes the running task's future out of the line.
-fn leave<W: Holds<Watch<T>>, T: Drop, C: SharedContext<W>>(cx: &mut C, ticket: Option<u64>)
+pub(crate) fn leave<W: Holds<Watch<T>>, T: Drop, C: SharedContext<W>>(
+    cx: &mut C,
+    ticket: Option<u64>,
+)
     ensures answer { GivesUp (W.part (C.shared cx.old)) ticket (C.number cx.old) (W.part (C.shared cx.new)) }
     ensures work { C.work cx.new ≡ C.work cx.old }
     ensures reached { C.reaches cx.old cx.new }

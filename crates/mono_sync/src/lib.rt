@@ -15,7 +15,9 @@ mod kinds;
 pub mod laws;
 mod lines;
 mod making;
+mod many_permits;
 mod messages;
+mod modifying;
 pub mod mpsc;
 mod notices;
 mod notifications;
@@ -28,6 +30,7 @@ mod tables;
 mod tallied_messages;
 pub mod tallies;
 mod touched;
+mod waiting;
 pub mod watch;
 
 pub use boths::Both;

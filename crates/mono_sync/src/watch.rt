@@ -10,6 +10,7 @@ ghost use Rattle.mono_task.specs.Owed.{Keeps};
 pub use crate::changes::{Changed, ChangedError, close, send};
 pub use crate::keyed_changes::{ChangedAt, close_at, send_at};
 use crate::lines::{Coming, Line, Waiter};
+pub use crate::waiting::{WaitFor, wait_for};
 use mono_task::SharedState;
 use std::alloc::Global;
 use std::mem;

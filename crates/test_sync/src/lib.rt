@@ -19,6 +19,8 @@ mod oneshots;
 #[cfg(test)]
 mod semaphores;
 #[cfg(test)]
+mod several;
+#[cfg(test)]
 mod tallies;
 #[cfg(test)]
 mod turns;

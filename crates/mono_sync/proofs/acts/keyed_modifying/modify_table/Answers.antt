@@ -1,0 +1,18 @@
+use Rattle.std.proofs.Common.{refl, inl}
+use Rattle.mono_sync.specs.Runs.{Leads, leads_itself}
+use Rattle.mono_sync.specs.Watches.{listed_by, owed_by, waiting_in}
+use Rattle.mono_sync.specs.WatchRuns.{Step}
+use Rattle.mono_sync.specs.ManyLeads.{each_itself, each_with, keeps_with}
+use Rattle.mono_sync.proofs.acts.keyed_modifying.modify_table.Goals as goal
+
+pub returns-clause-answer : goal.returns-clause-answer
+returns-clause-answer g c = inl (c.part_mut.result.now, c.send_modify.new.self, c.part_mut.ensures.value, c.send_modify.ensures.answer, refl)
+
+pub returns-clause-leads : goal.returns-clause-leads
+returns-clause-leads g c = each_with (Leads Step) waiting_in owed_by (leads_itself Step) c.args.values.now c.args.key c.part_mut.result.now c.send_modify.new.self c.part_mut.ensures.value c.send_modify.ensures.leads
+
+pub returns-clause-keeps : goal.returns-clause-keeps
+returns-clause-keeps g c me = keeps_with listed_by me c.part_mut.result.now c.send_modify.new.self (c.send_modify.ensures.keeps me) c.args.values.now c.args.key c.part_mut.ensures.value
+
+pub returns-then-is_none-clause-leads : goal.returns-then-is_none-clause-leads
+returns-then-is_none-clause-leads g c = each_itself (Leads Step) waiting_in owed_by (leads_itself Step) c.args.values.now

@@ -1,0 +1,176 @@
+// Calls that take several permits at once, and calls that change a watched value in place.
+use crate::turns::Turn;
+use mono_rt::SharedState;
+use mono_sync::watch::{self, Changing, WaitFor, Watch};
+use mono_sync::{Acquiring, MAX_PERMITS, Many, Only, Semaphore, TryAcquireError, acts};
+
+/// Permits that are added at once are owed to the tasks that have waited longest, one each.
+///
+/// It catches a call that adds one permit, and one that lets a permit that is owed be taken or forgotten.
+#[test]
+fn permits(rt: HostRuntime) {
+    let mut semaphore = Semaphore::new(rt.alloc(), 0);
+    assert!(rt; matches!(semaphore.acquire(None, 1), Acquiring::Joined(0)));
+    assert!(rt; matches!(semaphore.acquire(None, 2), Acquiring::Joined(1)));
+    assert!(rt; matches!(semaphore.acquire(None, 3), Acquiring::Joined(2)));
+    assert!(rt; semaphore.add_permits(2).is_ok());
+    assert_eq!(rt;
+        (semaphore.next_owed(), semaphore.next_owed()),
+        (Some(1), Some(2))
+    );
+    assert_eq!(rt;
+        (semaphore.next_owed(), semaphore.available_permits()),
+        (None, 0)
+    );
+    assert!(rt; semaphore.add_permits(MAX_PERMITS - 1).is_err());
+    assert!(rt; semaphore.add_permits(6).is_ok());
+    assert_eq!(rt; semaphore.available_permits(), 5);
+    assert!(rt;
+        matches!(
+            semaphore.try_acquire_many(6),
+            Err(TryAcquireError::NoPermits)
+        )
+    );
+    assert!(rt; semaphore.try_acquire_many(2).is_ok());
+    assert_eq!(rt;
+        (semaphore.forget_permits(2), semaphore.available_permits()),
+        (2, 1)
+    );
+    assert_eq!(rt;
+        (semaphore.forget_permits(9), semaphore.available_permits()),
+        (1, 0)
+    );
+    assert!(rt; semaphore.try_acquire_many(0).is_ok());
+    assert!(rt; matches!(semaphore.acquire(Some(0), 1), Acquiring::Acquired));
+    assert_eq!(rt; semaphore.next_owed(), Some(3));
+    assert!(rt; semaphore.add_permits(1).is_ok());
+    semaphore.close();
+    assert!(rt; matches!(semaphore.try_acquire_many(1), Err(TryAcquireError::Closed)));
+    assert_eq!(rt; semaphore.forget_permits(1), 0);
+}
+
+/// A value that is changed in place has the next version, and all that wait are woken. A change that is not announced wakes
+/// nobody.
+#[test]
+fn changes_in_place(rt: HostRuntime) {
+    let mut watch = Watch::new(rt.alloc(), 10u64);
+    let mut seen = 0;
+    assert!(rt; matches!(watch.changed(seen, None, 1), Changing::Joined(0)));
+    assert!(rt;
+        matches!(
+            watch.send_if_modified(|value: &mut u64| {
+                *value = 11;
+                false
+            }),
+            Ok(false)
+        )
+    );
+    assert_eq!(rt;
+        (watch.next_owed(), watch.has_changed(seen), *watch.borrow()),
+        (None, false, 11)
+    );
+    assert!(rt;
+        matches!(
+            watch.send_if_modified(|value: &mut u64| {
+                *value = 12;
+                true
+            }),
+            Ok(true)
+        )
+    );
+    assert_eq!(rt;
+        (watch.next_owed(), watch.has_changed(seen)),
+        (Some(1), true)
+    );
+    assert_eq!(rt; *watch.borrow_and_update(&mut seen), 12);
+    assert_eq!(rt; (seen, watch.has_changed(seen)), (1, false));
+    assert!(rt; matches!(watch.changed(seen, None, 2), Changing::Joined(1)));
+    assert!(rt;
+        matches!(
+            watch.send_modify(|value: &mut u64| {
+                *value = 13;
+                5u64
+            }),
+            Ok(5)
+        )
+    );
+    assert_eq!(rt;
+        (watch.next_owed(), watch.version(), *watch.borrow()),
+        (Some(2), 2, 13)
+    );
+    watch.close();
+    assert!(rt; watch.is_closed());
+    assert!(rt;
+        watch
+            .send_modify(|value: &mut u64| {
+                *value = 14;
+            })
+            .is_err()
+    );
+    assert_eq!(rt; *watch.borrow(), 13);
+}
+
+/// A future waits until the value meets its condition, also over values that do not.
+///
+/// It catches a future that answers at the next value, and one that asks for a value after its own.
+#[test]
+fn waits_for_a_value(rt: HostRuntime) {
+    let alloc = rt.alloc();
+    let part = Watch::new(alloc, 5u64);
+    let mut turn = Turn {
+        task: 7,
+        shared: Only { part },
+    };
+    let future: WaitFor<Only<Watch<u64>>, u64, _> = watch::wait_for(|value: &u64| *value > 20);
+    let answer = turn.served(&rt, alloc, future, acts::send_value(21u64));
+    assert!(rt; matches!(answer, Some(Ok(1))));
+    let future: WaitFor<Only<Watch<u64>>, u64, _> = watch::wait_for(|value: &u64| *value == 30);
+    let call = acts::modify_value::<_, u64, (), _>(|value: &mut u64| *value = 30);
+    let answer = turn.served(&rt, alloc, future, call);
+    assert!(rt; matches!(answer, Some(Ok(2))));
+}
+
+/// The same calls by key reach the part with that key alone.
+#[test]
+fn by_key(rt: HostRuntime) {
+    let alloc = rt.alloc();
+    let mut part: Many<Semaphore> = Many::new(alloc);
+    assert!(rt; part.make(alloc, Semaphore::new(alloc, 1)).is_ok());
+    assert!(rt; part.make(alloc, Semaphore::new(alloc, 1)).is_ok());
+    let mut turn = Turn {
+        task: 7,
+        shared: Only { part },
+    };
+    assert!(rt;
+        matches!(
+            turn.answer(&rt, alloc, &mut acts::add_permits_at(1, 4)),
+            Some(Ok(()))
+        )
+    );
+    assert!(rt;
+        matches!(
+            turn.answer(&rt, alloc, &mut acts::try_acquire_many_at(1, 3)),
+            Some(Ok(()))
+        )
+    );
+    assert!(rt;
+        matches!(
+            turn.answer(&rt, alloc, &mut acts::try_acquire_many_at(0, 2)),
+            Some(Err(TryAcquireError::NoPermits))
+        )
+    );
+    assert!(rt;
+        matches!(
+            turn.answer(&rt, alloc, &mut acts::try_acquire_many_at(2, 1)),
+            Some(Err(TryAcquireError::Closed))
+        )
+    );
+    assert_eq!(rt;
+        turn.answer(&rt, alloc, &mut acts::forget_permits_at(1, 9)),
+        Some(2)
+    );
+    assert_eq!(rt;
+        turn.answer(&rt, alloc, &mut acts::forget_permits_at(2, 9)),
+        Some(0)
+    );
+}
