@@ -4,6 +4,8 @@ pub mod RoomLemmas
 pub mod OnceLemmas
 mod WaitForLemmas
 mod ManyPermitLemmas
+mod ManyMessageLemmas
+mod UnboundedLemmas
 pub mod ServedLemmas
 pub mod PlaceLemmas
 pub mod WaitLemmas

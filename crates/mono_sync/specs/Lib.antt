@@ -13,6 +13,8 @@ pub mod Watches
 pub mod SemaphoreRuns
 pub mod MpscRuns
 pub mod ManyPermits
+pub mod ManyMessages
+pub mod Unbounded
 pub mod Laws
 pub mod WaitLaws
 pub mod LineLaws

@@ -5,12 +5,14 @@ mod changes;
 mod deliveries;
 mod keyed_changes;
 mod keyed_deliveries;
+mod keyed_many_messages;
 mod keyed_many_permits;
 mod keyed_messages;
 mod keyed_modifying;
 mod keyed_notices;
 mod keyed_permits;
 mod making;
+mod many_messages;
 mod many_permits;
 mod messages;
 mod modifying;
@@ -24,6 +26,7 @@ pub use changes::{CloseValueCall, SendValueCall, close_value, send_value};
 pub use deliveries::{CloseOnceCall, SendOnceCall, close_once, send_once};
 pub use keyed_changes::{CloseValueAtCall, SendValueAtCall, close_value_at, send_value_at};
 pub use keyed_deliveries::{CloseOnceAtCall, SendOnceAtCall, close_once_at, send_once_at};
+pub use keyed_many_messages::{TryRecvManyAtCall, try_recv_many_at};
 pub use keyed_many_permits::{
     AddPermitsAtCall, ForgetPermitsAtCall, TryAcquireManyAtCall, add_permits_at, forget_permits_at,
     try_acquire_many_at,
@@ -40,6 +43,7 @@ pub use keyed_permits::{
     try_acquire_at,
 };
 pub use making::{MakeCall, RemoveCall, make, remove};
+pub use many_messages::{TryRecvManyCall, try_recv_many};
 pub use many_permits::{
     AddPermitsCall, ForgetPermitsCall, TryAcquireManyCall, add_permits, forget_permits,
     try_acquire_many,

@@ -1,5 +1,6 @@
 //! Laws that hold over any calls of channels, of a semaphore, of a notice and of a watched value.
 ghost use Rattle.mono_sync.specs.Laws.{PermitsAreKept, FirstComeFirstServed, ServedInOrder, InOrder, NothingAfterClose, StaysBounded, ReceivedOnce};
+ghost use Rattle.mono_sync.specs.Unbounded.{UnboundedIsNeverFull};
 ghost use Rattle.mono_sync.specs.WaitLaws.{PendingIsListed, PendingSenderIsListed, PendingReceiverIsListed, PendingDeliveryIsListed, PendingNoticeIsListed, PendingChangeIsListed, TakesOutItsOwn, NoPermitLiesIdle, NoMessageLiesIdle, NoDeliveryLiesIdle, NoNoticeLiesIdle, NoChangeLiesIdle};
 ghost use Rattle.mono_sync.specs.LineLaws.{NoTaskIsOvertaken, NoSenderIsOvertaken, WaitsIfReserved, WaitsIfPromised, PassesItsPermitOn, PassesItsPlaceOn, PassesItsNoticeOn, NoticeReachesAll, NoticeOutlivesNoticeToAll, WokenHasNotice, UndrawnIsNoTicket};
 
@@ -31,6 +32,12 @@ pub fn nothing_after_close<T>()
 /// Shows that a channel never has more messages than its bound.
 pub fn stays_bounded<T>()
     ensures { StaysBounded T }
+{}
+
+/// Shows that in an unbounded channel no task waits to send, and no message is refused as `Full`, as long as fewer messages are
+/// sent than its bound.
+pub fn unbounded_is_never_full<T>()
+    ensures { UnboundedIsNeverFull T }
 {}
 
 /// Shows that a oneshot channel takes one message at most and none after a close, and that it comes out once.

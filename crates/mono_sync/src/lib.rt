@@ -15,6 +15,7 @@ mod kinds;
 pub mod laws;
 mod lines;
 mod making;
+mod many_messages;
 mod many_permits;
 mod messages;
 mod modifying;

@@ -1,6 +1,7 @@
-// Calls that take several permits at once, and calls that change a watched value in place.
+// Calls that take several permits or messages at once, and calls that change a watched value in place.
 use crate::turns::Turn;
 use mono_rt::SharedState;
+use mono_sync::mpsc::{Channel, Receiving};
 use mono_sync::watch::{self, Changing, WaitFor, Watch};
 use mono_sync::{Acquiring, MAX_PERMITS, Many, Only, Semaphore, TryAcquireError, acts};
 
@@ -47,6 +48,53 @@ fn permits(rt: HostRuntime) {
     semaphore.close();
     assert!(rt; matches!(semaphore.try_acquire_many(1), Err(TryAcquireError::Closed)));
     assert_eq!(rt; semaphore.forget_permits(1), 0);
+}
+
+/// Several messages come in their order, and none that is promised to a task that waits.
+#[test]
+fn messages(rt: HostRuntime) {
+    let alloc = rt.alloc();
+    let mut channel: Channel<u64> = Channel::new(alloc, 5);
+    assert_eq!(rt;
+        (
+            channel.is_empty(),
+            channel.capacity(),
+            channel.max_capacity()
+        ),
+        (true, 5, 5)
+    );
+    assert!(rt; matches!(channel.recv(None, 1), Receiving::Joined(0)));
+    for number in 10..14u64 {
+        assert!(rt; channel.try_send(number).is_ok());
+    }
+    assert_eq!(rt;
+        (
+            channel.is_empty(),
+            channel.capacity(),
+            channel.max_capacity()
+        ),
+        (false, 1, 5)
+    );
+    let mut buffer = Vec::new(alloc);
+    assert!(rt; matches!(channel.try_recv_many(2, &mut buffer), Ok(2)));
+    assert!(rt; buffer.as_slice() == [10u64, 11].as_slice());
+    assert!(rt; matches!(channel.try_recv_many(9, &mut buffer), Ok(1)));
+    assert!(rt; buffer.as_slice() == [10u64, 11, 12].as_slice());
+    assert!(rt; matches!(channel.try_recv_many(9, &mut buffer), Ok(0)));
+    assert_eq!(rt; (channel.next_owed(), channel.len()), (Some(1), 1));
+    channel.close();
+    assert!(rt; matches!(channel.try_recv_many(9, &mut buffer), Ok(1)));
+    assert!(rt; buffer.as_slice() == [10u64, 11, 12, 13].as_slice());
+}
+
+/// An unbounded channel takes each message at once.
+#[test]
+fn unbounded(rt: HostRuntime) {
+    let mut channel: Channel<u64> = Channel::unbounded(rt.alloc());
+    for number in 0..2000u64 {
+        assert!(rt; channel.try_send(number).is_ok());
+    }
+    assert_eq!(rt; (channel.len(), channel.max_capacity()), (2000, usize::MAX));
 }
 
 /// A value that is changed in place has the next version, and all that wait are woken. A change that is not announced wakes
