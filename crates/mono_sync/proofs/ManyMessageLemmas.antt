@@ -1,5 +1,5 @@
 -- Several messages that are taken in one call are as many receives.
-use Rattle.std.proofs.Common.{◌≡◌, ◌<◌, ◌≤◌, ◌+◌, ◌-◌, true, false, Bool, cond, ℕ, suc, List, [], ◌∷◌, ◌++◌, length, Ok, Err, refl, sym, ap, subst, ◌∙◌, arith, length-append}
+use Rattle.std.proofs.Common.{◌≡◌, ◌<◌, ◌≤◌, ◌+◌, ◌-◌, true, false, Bool, cond, ℕ, suc, List, [], ◌∷◌, ◌++◌, length, Ok, Err, sym, ap, subst, ◌∙◌, arith, length-append}
 use Rattle.std.proofs.lemmas.List.{append_assoc}
 use Rattle.mono_sync.specs.declared.mpsc.Channel.{Channel}
 use Rattle.mono_sync.specs.declared.mpsc.TryRecvError.{TryRecvError}

@@ -1,11 +1,10 @@
 -- Several permits that are added or taken in one call are so many releases or acquisitions.
-use Rattle.std.proofs.Common.{◌≡◌, ◌<◌, ◌≤◌, ◌+◌, ◌-◌, true, false, ℕ, zero, suc, length, Ok, Err, refl, sym, subst, arith, ◌∙◌}
-use Rattle.mono_sync.specs.declared.lines.Line.{Line}
+use Rattle.std.proofs.Common.{◌≡◌, ◌<◌, ◌≤◌, ◌+◌, ◌-◌, ℕ, zero, suc, length, Ok, refl, sym, subst, arith, ◌∙◌}
 use Rattle.mono_sync.specs.declared.semaphores.Semaphore.{Semaphore}
 use Rattle.mono_sync.specs.declared.semaphores.TheConstants.{MAX_PERMITS}
 use Rattle.mono_sync.specs.Semaphores.{Releases, TriesToAcquire}
 use Rattle.mono_sync.specs.SemaphoreRuns.{Leads, leads_itself, leads_on, leads_by, released, tried}
-use Rattle.mono_sync.specs.ManyPermits.{free_permits, TakesPermits}
+use Rattle.mono_sync.specs.ManyPermits.{TakesPermits}
 
 stays : (a b : Semaphore) → b.available ≡ a.available → b.line ≡ a.line → b.is_closed ≡ a.is_closed → Leads a b
 stays a b available line closed = subst (Leads a) (λ i. record { available = sym available i; is_closed = sym closed i; line = sym line i }) (leads_itself a)

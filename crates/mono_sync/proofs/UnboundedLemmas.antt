@@ -1,5 +1,5 @@
 -- No task waits to send while fewer messages are queued than the bound.
-use Rattle.std.proofs.Common.{true, false, Bool, MatchBool, ◌≡◌, ◌<◌, ◌≤◌, ◌+◌, ◌-◌, ℕ, zero, suc, List, [], ◌∷◌, ◌++◌, length, Option, Some, None, Ok, Err, ◌⊎◌, refl, sym, ap, subst, ◌∙◌, inl, inr, arith, length-append, nat_lt}
+use Rattle.std.proofs.Common.{true, false, Bool, MatchBool, ◌≡◌, ◌<◌, ◌≤◌, ◌+◌, ◌-◌, ℕ, List, [], ◌∷◌, ◌++◌, length, Option, Some, None, Ok, Err, refl, sym, ap, subst, ◌∙◌, inl, inr, arith, length-append, nat_lt}
 use Rattle.mono_sync.specs.declared.lines.Waiter.{Waiter}
 use Rattle.mono_sync.specs.declared.lines.Line.{Line}
 use Rattle.mono_sync.specs.declared.lines.Coming.{Coming}
@@ -10,7 +10,7 @@ use Rattle.mono_sync.specs.declared.mpsc.TryRecvError.TheVariants as unreceived
 use Rattle.mono_sync.specs.declared.mpsc.Sending.TheVariants as sending
 use Rattle.mono_sync.specs.declared.mpsc.Receiving.TheVariants as receiving
 use Rattle.mono_sync.specs.Lines.{Comes, ComesOf, Leaves, LeavesOf, Collects, Fits, HasRoom, Takes, holder_of}
-use Rattle.mono_sync.specs.Mpsc.{TriesToSend, Sends, places}
+use Rattle.mono_sync.specs.Mpsc.{TriesToSend, places}
 use Rattle.mono_sync.specs.MpscRuns.{Event, tried_to_send, tried_to_receive, asked_to_send, asked_to_receive, gave_up_send, gave_up_receive, closed, served_sender, served_receiver, Step, Run, sent, sent_by}
 use Rattle.mono_sync.specs.Unbounded.{HasNoSender, UnboundedIsNeverFull}
 
