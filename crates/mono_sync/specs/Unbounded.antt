@@ -1,5 +1,5 @@
 -- A channel whose bound no memory reaches.
-use Rattle.std.specs.Prelude.{⊤, false, ◌≡◌, ◌<◌, ◌+◌, ℕ, List, [], length, Option, Ok, Err}
+use Rattle.std.specs.Prelude.{◌≡◌, ◌<◌, ◌+◌, ℕ, List, [], length, Option, Err}
 use Rattle.mono_sync.specs.declared.mpsc.Channel.{Channel}
 use Rattle.mono_sync.specs.declared.mpsc.TrySendError.TheVariants as unsent
 use Rattle.mono_sync.specs.declared.mpsc.Sending.TheVariants as sending
@@ -10,8 +10,8 @@ use Rattle.mono_sync.specs.MpscRuns.{Event, Run, sent}
 abbrev pub HasNoSender : {T : Type 0} → Channel T → Type 0
 HasNoSender a = (a.senders.waiters.items ≡ []) × (a.senders.granted ≡ 0)
 
--- Whatever is called: if the messages that were queued and those that were sent are fewer than the bound, no message is
--- refused as `Full`, and no future waits to send.
+-- No message is refused as `Full`, and no future waits to send, as long as the queued and the sent messages are fewer than
+-- the bound.
 abbrev pub UnboundedIsNeverFull : Type 0 → Type 0
 UnboundedIsNeverFull T = (es : List (Event T)) (a b c : Channel T) (x y : T) → HasNoSender a → length a.queue.items + length (sent es) < a.bound → Run a es b
     → HasNoSender b × (TriesToSend b x (Err (unsent.Full y)) c → ⊥)

@@ -34,8 +34,8 @@ pub fn stays_bounded<T>()
     ensures { StaysBounded T }
 {}
 
-/// Shows that in an unbounded channel no task waits to send, and no message is refused as `Full`, as long as fewer messages are
-/// sent than its bound.
+/// Shows that no task waits to send, and no message is refused as `Full`, as long as the queued and the sent messages are fewer
+/// than the bound.
 pub fn unbounded_is_never_full<T>()
     ensures { UnboundedIsNeverFull T }
 {}

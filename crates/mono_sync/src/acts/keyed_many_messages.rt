@@ -22,8 +22,9 @@ pub struct TryRecvManyAtCall<T> {
     message: PhantomData<T>,
 }
 
-/// Receives the first messages of the channel with this key at once, at most `limit`, and answers them in their order: none if
-/// there is no such channel, or if each queued message is owed to a task that waits, or promised to one that was served.
+/// Receives the first messages of the channel with this key at once, at most `limit`, and answers them in their order. Answers
+/// none if there is no such channel. A message that is owed to a task that waits, or promised to one that was served, stays in
+/// the queue.
 ///
 /// Refused, with no message taken, if out of memory.
 pub fn try_recv_many_at<W, T>(key: u64, limit: usize) -> AtOnce<W, TryRecvManyAtCall<T>>

@@ -18,8 +18,8 @@ pub struct TryRecvManyCall<T> {
     message: PhantomData<T>,
 }
 
-/// Receives the first messages at once, at most `limit`, and answers them in their order: none if each queued message is owed
-/// to a task that waits, or promised to one that was served.
+/// Receives the first messages at once, at most `limit`, and answers them in their order. A message that is owed to a task that
+/// waits, or promised to one that was served, stays in the queue.
 ///
 /// Refused, with no message taken, if out of memory.
 pub fn try_recv_many<W, T>(limit: usize) -> AtOnce<W, TryRecvManyCall<T>>
