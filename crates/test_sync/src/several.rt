@@ -1,9 +1,9 @@
 // Calls that take several permits or messages at once, and calls that change a watched value in place.
 use crate::turns::Turn;
-use mono_rt::SharedState;
 use mono_sync::mpsc::{Channel, Receiving};
 use mono_sync::watch::{self, Changing, WaitFor, Watch};
 use mono_sync::{Acquiring, MAX_PERMITS, Many, Only, Semaphore, TryAcquireError, acts};
+use mono_task::SharedState;
 
 /// Permits that are added at once are owed to the tasks that have waited longest, one each.
 ///
