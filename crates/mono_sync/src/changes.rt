@@ -7,6 +7,7 @@ ghost use Rattle.mono_sync.specs.Changes.{ChangedPolls, ChangedGives, ChangedCan
 ghost use Rattle.mono_sync.specs.Spent.{changed_spent};
 ghost use Rattle.mono_task.specs.Owed.{Keeps};
 
+use crate::lines::Ticket;
 use crate::parts::Holds;
 use crate::watch::{Changing, Watch};
 use mono_model::{Host, Poll};
@@ -18,7 +19,7 @@ use std::marker::PhantomData;
 #[derive(Drop)]
 pub struct Changed<W, T> {
     pub(crate) seen: u64,
-    pub(crate) ticket: Option<u64>,
+    pub(crate) ticket: Option<Ticket>,
     pub(crate) has_answered: bool,
     shared: PhantomData<W>,
     value: PhantomData<T>,
@@ -54,7 +55,7 @@ impl<W, T> Changed<W, T> {
 fn ask_part<W: Holds<Watch<T>>, T: Drop>(
     whole: &mut W,
     seen: u64,
-    ticket: Option<u64>,
+    ticket: Option<Ticket>,
     me: u64,
 ) -> Changing
     ensures answer { Changes (W.part whole.old) seen ticket me result (W.part whole.new) }
@@ -65,7 +66,7 @@ fn ask_part<W: Holds<Watch<T>>, T: Drop>(
 }
 
 // Takes a future out of the line.
-fn leave_part<W: Holds<Watch<T>>, T: Drop>(whole: &mut W, ticket: Option<u64>, me: u64)
+fn leave_part<W: Holds<Watch<T>>, T: Drop>(whole: &mut W, ticket: Option<Ticket>, me: u64)
     ensures answer { GivesUp (W.part whole.old) ticket me (W.part whole.new) }
     ensures leads { W.leads whole.old whole.new }
     ensures keeps { Keeps W.lists me whole.old whole.new }
@@ -95,7 +96,7 @@ pub(crate) fn close_part<W: Holds<Watch<T>>, T: Drop>(whole: &mut W)
 fn ask<W: Holds<Watch<T>>, T: Drop, C: SharedContext<W>>(
     cx: &mut C,
     seen: u64,
-    ticket: Option<u64>,
+    ticket: Option<Ticket>,
 ) -> Changing
     ensures answer { Changes (W.part (C.shared cx.old)) seen ticket (C.number cx.old) result (W.part (C.shared cx.new)) }
     ensures work { C.work cx.new ≡ C.work cx.old }
@@ -108,7 +109,7 @@ fn ask<W: Holds<Watch<T>>, T: Drop, C: SharedContext<W>>(
 // Takes the running task's future out of the line.
 pub(crate) fn leave<W: Holds<Watch<T>>, T: Drop, C: SharedContext<W>>(
     cx: &mut C,
-    ticket: Option<u64>,
+    ticket: Option<Ticket>,
 )
     ensures answer { GivesUp (W.part (C.shared cx.old)) ticket (C.number cx.old) (W.part (C.shared cx.new)) }
     ensures work { C.work cx.new ≡ C.work cx.old }

@@ -7,6 +7,7 @@ ghost use Rattle.mono_sync.specs.Deliveries.{RecvPolls, RecvGives, RecvCancels};
 ghost use Rattle.mono_sync.specs.Spent.{oneshot_spent};
 ghost use Rattle.mono_task.specs.Owed.{Keeps};
 
+use crate::lines::Ticket;
 use crate::oneshot::{Oneshot, Receiving};
 use crate::parts::Holds;
 use mono_model::{Host, Poll};
@@ -17,7 +18,7 @@ use std::marker::PhantomData;
 /// A future that receives the one message of the tasks' channel, and waits until it was sent.
 #[derive(Drop)]
 pub struct Recv<W, T> {
-    pub(crate) ticket: Option<u64>,
+    pub(crate) ticket: Option<Ticket>,
     pub(crate) has_answered: bool,
     shared: PhantomData<W>,
     message: PhantomData<T>,
@@ -52,7 +53,7 @@ impl<W, T> Recv<W, T> {
 // Asks the channel for a future of this task.
 fn ask_part<W: Holds<Oneshot<T>>, T: Drop>(
     whole: &mut W,
-    ticket: Option<u64>,
+    ticket: Option<Ticket>,
     me: u64,
 ) -> Receiving<T>
     ensures answer { Receives (W.part whole.old) ticket me result (W.part whole.new) }
@@ -63,7 +64,7 @@ fn ask_part<W: Holds<Oneshot<T>>, T: Drop>(
 }
 
 // Takes a future out of the line.
-fn leave_part<W: Holds<Oneshot<T>>, T: Drop>(whole: &mut W, ticket: Option<u64>, me: u64)
+fn leave_part<W: Holds<Oneshot<T>>, T: Drop>(whole: &mut W, ticket: Option<Ticket>, me: u64)
     ensures answer { GivesUp (W.part whole.old) ticket me (W.part whole.new) }
     ensures leads { W.leads whole.old whole.new }
     ensures keeps { Keeps W.lists me whole.old whole.new }
@@ -92,7 +93,7 @@ pub(crate) fn close_part<W: Holds<Oneshot<T>>, T: Drop>(whole: &mut W)
 // Asks the channel for the running task's future.
 fn ask<W: Holds<Oneshot<T>>, T: Drop, C: SharedContext<W>>(
     cx: &mut C,
-    ticket: Option<u64>,
+    ticket: Option<Ticket>,
 ) -> Receiving<T>
     ensures answer { Receives (W.part (C.shared cx.old)) ticket (C.number cx.old) result (W.part (C.shared cx.new)) }
     ensures work { C.work cx.new ≡ C.work cx.old }
@@ -103,7 +104,7 @@ fn ask<W: Holds<Oneshot<T>>, T: Drop, C: SharedContext<W>>(
 }
 
 // Takes the running task's future out of the line.
-fn leave<W: Holds<Oneshot<T>>, T: Drop, C: SharedContext<W>>(cx: &mut C, ticket: Option<u64>)
+fn leave<W: Holds<Oneshot<T>>, T: Drop, C: SharedContext<W>>(cx: &mut C, ticket: Option<Ticket>)
     ensures answer { GivesUp (W.part (C.shared cx.old)) ticket (C.number cx.old) (W.part (C.shared cx.new)) }
     ensures work { C.work cx.new ≡ C.work cx.old }
     ensures reached { C.reaches cx.old cx.new }

@@ -11,6 +11,7 @@ ghost use Rattle.mono_sync.specs.Spent.{changed_at_spent};
 ghost use Rattle.mono_task.specs.Owed.{Keeps};
 
 use crate::changes::ChangedError;
+use crate::lines::Ticket;
 use crate::parts::Holds;
 use crate::tables::Many;
 use crate::watch::{Changing, Watch};
@@ -24,7 +25,7 @@ use std::marker::PhantomData;
 pub struct ChangedAt<W, T> {
     pub(crate) key: u64,
     pub(crate) seen: u64,
-    pub(crate) ticket: Option<u64>,
+    pub(crate) ticket: Option<Ticket>,
     pub(crate) has_answered: bool,
     shared: PhantomData<W>,
     value: PhantomData<T>,
@@ -54,7 +55,7 @@ fn ask_table<T: Drop>(
     values: &mut Many<Watch<T>>,
     key: u64,
     seen: u64,
-    ticket: Option<u64>,
+    ticket: Option<Ticket>,
     me: u64,
 ) -> Changing
     ensures answer { ChangesAt key values.old seen ticket me result values.new }
@@ -72,7 +73,7 @@ fn ask_part<W: Holds<Many<Watch<T>>>, T: Drop>(
     whole: &mut W,
     key: u64,
     seen: u64,
-    ticket: Option<u64>,
+    ticket: Option<Ticket>,
     me: u64,
 ) -> Changing
     ensures answer { ChangesAt key (W.part whole.old) seen ticket me result (W.part whole.new) }
@@ -87,7 +88,7 @@ fn ask<W: Holds<Many<Watch<T>>>, T: Drop, C: SharedContext<W>>(
     cx: &mut C,
     key: u64,
     seen: u64,
-    ticket: Option<u64>,
+    ticket: Option<Ticket>,
 ) -> Changing
     ensures answer { ChangesAt key (W.part (C.shared cx.old)) seen ticket (C.number cx.old) result (W.part (C.shared cx.new)) }
     ensures work { C.work cx.new ≡ C.work cx.old }
@@ -98,7 +99,7 @@ fn ask<W: Holds<Many<Watch<T>>>, T: Drop, C: SharedContext<W>>(
 }
 
 // Takes a future out of the line of the watched value with this key.
-fn leave_table<T: Drop>(values: &mut Many<Watch<T>>, key: u64, ticket: Option<u64>, me: u64)
+fn leave_table<T: Drop>(values: &mut Many<Watch<T>>, key: u64, ticket: Option<Ticket>, me: u64)
     ensures answer { GivesUpAt key values.old ticket me values.new }
     ensures leads { LeadsEach (Leads Step) waiting_in owed_by values.old values.new }
     ensures keeps { Keeps (lists_each listed_by) me values.old values.new }
@@ -113,7 +114,7 @@ fn leave_table<T: Drop>(values: &mut Many<Watch<T>>, key: u64, ticket: Option<u6
 fn leave_part<W: Holds<Many<Watch<T>>>, T: Drop>(
     whole: &mut W,
     key: u64,
-    ticket: Option<u64>,
+    ticket: Option<Ticket>,
     me: u64,
 )
     ensures answer { GivesUpAt key (W.part whole.old) ticket me (W.part whole.new) }
@@ -127,7 +128,7 @@ fn leave_part<W: Holds<Many<Watch<T>>>, T: Drop>(
 fn leave<W: Holds<Many<Watch<T>>>, T: Drop, C: SharedContext<W>>(
     cx: &mut C,
     key: u64,
-    ticket: Option<u64>,
+    ticket: Option<Ticket>,
 )
     ensures answer { GivesUpAt key (W.part (C.shared cx.old)) ticket (C.number cx.old) (W.part (C.shared cx.new)) }
     ensures work { C.work cx.new ≡ C.work cx.old }

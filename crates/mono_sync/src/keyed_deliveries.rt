@@ -11,6 +11,7 @@ ghost use Rattle.mono_sync.specs.Spent.{oneshot_at_spent};
 ghost use Rattle.mono_task.specs.Owed.{Keeps};
 
 use crate::deliveries::RecvError;
+use crate::lines::Ticket;
 use crate::making::remove_idle;
 use crate::oneshot::{Oneshot, Receiving};
 use crate::parts::Holds;
@@ -27,7 +28,7 @@ use std::marker::PhantomData;
 #[derive(Drop)]
 pub struct RecvAt<W, T> {
     pub(crate) key: u64,
-    pub(crate) ticket: Option<u64>,
+    pub(crate) ticket: Option<Ticket>,
     pub(crate) has_answered: bool,
     shared: PhantomData<W>,
     message: PhantomData<T>,
@@ -54,7 +55,7 @@ impl<W, T> RecvAt<W, T> {
 fn ask_table<T: Drop>(
     channels: &mut Many<Oneshot<T>>,
     key: u64,
-    ticket: Option<u64>,
+    ticket: Option<Ticket>,
     me: u64,
 ) -> Receiving<T>
     ensures answer { ReceivesAt key channels.old ticket me result channels.new }
@@ -85,7 +86,7 @@ fn has_ended<T>(answer: &Receiving<T>) -> bool
 fn take_table<T: Drop>(
     channels: &mut Many<Oneshot<T>>,
     key: u64,
-    ticket: Option<u64>,
+    ticket: Option<Ticket>,
     me: u64,
 ) -> Receiving<T>
     ensures answer { TakesAt key channels.old ticket me result channels.new }
@@ -101,7 +102,7 @@ fn take_table<T: Drop>(
 }
 
 // Takes a future out of the line of the channel with this key.
-fn leave_table<T: Drop>(channels: &mut Many<Oneshot<T>>, key: u64, ticket: Option<u64>, me: u64)
+fn leave_table<T: Drop>(channels: &mut Many<Oneshot<T>>, key: u64, ticket: Option<Ticket>, me: u64)
     ensures answer { GivesUpAt key channels.old ticket me channels.new }
     ensures leads { LeadsEach (Leads Step) waiting_in owed_by channels.old channels.new }
     ensures keeps { Keeps (lists_each listed_by) me channels.old channels.new }
@@ -113,7 +114,7 @@ fn leave_table<T: Drop>(channels: &mut Many<Oneshot<T>>, key: u64, ticket: Optio
 }
 
 // Takes a future out of the line of the channel with this key, and removes the channel.
-fn drop_table<T: Drop>(channels: &mut Many<Oneshot<T>>, key: u64, ticket: Option<u64>, me: u64)
+fn drop_table<T: Drop>(channels: &mut Many<Oneshot<T>>, key: u64, ticket: Option<Ticket>, me: u64)
     ensures answer { DropsAt key channels.old ticket me channels.new }
     ensures leads { LeadsEach (Leads Step) waiting_in owed_by channels.old channels.new }
     ensures keeps { Keeps (lists_each listed_by) me channels.old channels.new }
@@ -150,7 +151,7 @@ fn close_table<T: Drop>(channels: &mut Many<Oneshot<T>>, key: u64)
 fn take_part<W: Holds<Many<Oneshot<T>>>, T: Drop>(
     whole: &mut W,
     key: u64,
-    ticket: Option<u64>,
+    ticket: Option<Ticket>,
     me: u64,
 ) -> Receiving<T>
     ensures answer { TakesAt key (W.part whole.old) ticket me result (W.part whole.new) }
@@ -164,7 +165,7 @@ fn take_part<W: Holds<Many<Oneshot<T>>>, T: Drop>(
 fn drop_part<W: Holds<Many<Oneshot<T>>>, T: Drop>(
     whole: &mut W,
     key: u64,
-    ticket: Option<u64>,
+    ticket: Option<Ticket>,
     me: u64,
 )
     ensures answer { DropsAt key (W.part whole.old) ticket me (W.part whole.new) }
@@ -200,7 +201,7 @@ pub(crate) fn close_part<W: Holds<Many<Oneshot<T>>>, T: Drop>(whole: &mut W, key
 fn take<W: Holds<Many<Oneshot<T>>>, T: Drop, C: SharedContext<W>>(
     cx: &mut C,
     key: u64,
-    ticket: Option<u64>,
+    ticket: Option<Ticket>,
 ) -> Receiving<T>
     ensures answer { TakesAt key (W.part (C.shared cx.old)) ticket (C.number cx.old) result (W.part (C.shared cx.new)) }
     ensures work { C.work cx.new ≡ C.work cx.old }
@@ -214,7 +215,7 @@ fn take<W: Holds<Many<Oneshot<T>>>, T: Drop, C: SharedContext<W>>(
 fn leave<W: Holds<Many<Oneshot<T>>>, T: Drop, C: SharedContext<W>>(
     cx: &mut C,
     key: u64,
-    ticket: Option<u64>,
+    ticket: Option<Ticket>,
 )
     ensures answer { DropsAt key (W.part (C.shared cx.old)) ticket (C.number cx.old) (W.part (C.shared cx.new)) }
     ensures work { C.work cx.new ≡ C.work cx.old }

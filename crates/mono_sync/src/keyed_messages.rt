@@ -9,6 +9,7 @@ ghost use Rattle.mono_sync.specs.KeyedMessages.{SendsAt, ReceivesAt, GivesUpSend
 ghost use Rattle.mono_sync.specs.Spent.{send_at_spent, recv_at_spent};
 ghost use Rattle.mono_task.specs.Owed.{Keeps};
 
+use crate::lines::Ticket;
 use crate::messages::SendError;
 use crate::mpsc::{Channel, Receiving, Sending, TryRecvError, TrySendError};
 use crate::parts::Holds;
@@ -25,7 +26,7 @@ pub struct SendAt<W, T> {
     pub(crate) key: u64,
     // The message, until it is sent.
     pub(crate) message: Option<T>,
-    pub(crate) ticket: Option<u64>,
+    pub(crate) ticket: Option<Ticket>,
     shared: PhantomData<W>,
 }
 
@@ -33,7 +34,7 @@ pub struct SendAt<W, T> {
 #[derive(Drop)]
 pub struct RecvAt<W, T> {
     pub(crate) key: u64,
-    pub(crate) ticket: Option<u64>,
+    pub(crate) ticket: Option<Ticket>,
     pub(crate) has_answered: bool,
     shared: PhantomData<W>,
     message: PhantomData<T>,
@@ -76,7 +77,7 @@ impl<W, T> RecvAt<W, T> {
 fn send_table<T: Drop>(
     channels: &mut Many<Channel<T>>,
     key: u64,
-    ticket: Option<u64>,
+    ticket: Option<Ticket>,
     message: T,
     me: u64,
 ) -> Sending<T>
@@ -94,7 +95,7 @@ fn send_table<T: Drop>(
 fn send_part<W: Holds<Many<Channel<T>>>, T: Drop>(
     whole: &mut W,
     key: u64,
-    ticket: Option<u64>,
+    ticket: Option<Ticket>,
     message: T,
     me: u64,
 ) -> Sending<T>
@@ -109,7 +110,7 @@ fn send_part<W: Holds<Many<Channel<T>>>, T: Drop>(
 fn ask_send<W: Holds<Many<Channel<T>>>, T: Drop, C: SharedContext<W>>(
     cx: &mut C,
     key: u64,
-    ticket: Option<u64>,
+    ticket: Option<Ticket>,
     message: T,
 ) -> Sending<T>
     ensures answer { SendsAt key (W.part (C.shared cx.old)) ticket message (C.number cx.old) result (W.part (C.shared cx.new)) }
@@ -124,7 +125,7 @@ fn ask_send<W: Holds<Many<Channel<T>>>, T: Drop, C: SharedContext<W>>(
 fn recv_table<T: Drop>(
     channels: &mut Many<Channel<T>>,
     key: u64,
-    ticket: Option<u64>,
+    ticket: Option<Ticket>,
     me: u64,
 ) -> Receiving<T>
     ensures answer { ReceivesAt key channels.old ticket me result channels.new }
@@ -141,7 +142,7 @@ fn recv_table<T: Drop>(
 fn recv_part<W: Holds<Many<Channel<T>>>, T: Drop>(
     whole: &mut W,
     key: u64,
-    ticket: Option<u64>,
+    ticket: Option<Ticket>,
     me: u64,
 ) -> Receiving<T>
     ensures answer { ReceivesAt key (W.part whole.old) ticket me result (W.part whole.new) }
@@ -155,7 +156,7 @@ fn recv_part<W: Holds<Many<Channel<T>>>, T: Drop>(
 fn ask_recv<W: Holds<Many<Channel<T>>>, T: Drop, C: SharedContext<W>>(
     cx: &mut C,
     key: u64,
-    ticket: Option<u64>,
+    ticket: Option<Ticket>,
 ) -> Receiving<T>
     ensures answer { ReceivesAt key (W.part (C.shared cx.old)) ticket (C.number cx.old) result (W.part (C.shared cx.new)) }
     ensures work { C.work cx.new ≡ C.work cx.old }
@@ -169,7 +170,7 @@ fn ask_recv<W: Holds<Many<Channel<T>>>, T: Drop, C: SharedContext<W>>(
 fn leave_send_table<T: Drop>(
     channels: &mut Many<Channel<T>>,
     key: u64,
-    ticket: Option<u64>,
+    ticket: Option<Ticket>,
     me: u64,
 )
     ensures answer { GivesUpSendAt key channels.old ticket me channels.new }
@@ -186,7 +187,7 @@ fn leave_send_table<T: Drop>(
 fn leave_send_part<W: Holds<Many<Channel<T>>>, T: Drop>(
     whole: &mut W,
     key: u64,
-    ticket: Option<u64>,
+    ticket: Option<Ticket>,
     me: u64,
 )
     ensures answer { GivesUpSendAt key (W.part whole.old) ticket me (W.part whole.new) }
@@ -200,7 +201,7 @@ fn leave_send_part<W: Holds<Many<Channel<T>>>, T: Drop>(
 fn stop_send<W: Holds<Many<Channel<T>>>, T: Drop, C: SharedContext<W>>(
     cx: &mut C,
     key: u64,
-    ticket: Option<u64>,
+    ticket: Option<Ticket>,
 )
     ensures answer { GivesUpSendAt key (W.part (C.shared cx.old)) ticket (C.number cx.old) (W.part (C.shared cx.new)) }
     ensures work { C.work cx.new ≡ C.work cx.old }
@@ -214,7 +215,7 @@ fn stop_send<W: Holds<Many<Channel<T>>>, T: Drop, C: SharedContext<W>>(
 fn leave_recv_table<T: Drop>(
     channels: &mut Many<Channel<T>>,
     key: u64,
-    ticket: Option<u64>,
+    ticket: Option<Ticket>,
     me: u64,
 )
     ensures answer { GivesUpReceiveAt key channels.old ticket me channels.new }
@@ -231,7 +232,7 @@ fn leave_recv_table<T: Drop>(
 fn leave_recv_part<W: Holds<Many<Channel<T>>>, T: Drop>(
     whole: &mut W,
     key: u64,
-    ticket: Option<u64>,
+    ticket: Option<Ticket>,
     me: u64,
 )
     ensures answer { GivesUpReceiveAt key (W.part whole.old) ticket me (W.part whole.new) }
@@ -245,7 +246,7 @@ fn leave_recv_part<W: Holds<Many<Channel<T>>>, T: Drop>(
 fn stop_recv<W: Holds<Many<Channel<T>>>, T: Drop, C: SharedContext<W>>(
     cx: &mut C,
     key: u64,
-    ticket: Option<u64>,
+    ticket: Option<Ticket>,
 )
     ensures answer { GivesUpReceiveAt key (W.part (C.shared cx.old)) ticket (C.number cx.old) (W.part (C.shared cx.new)) }
     ensures work { C.work cx.new ≡ C.work cx.old }

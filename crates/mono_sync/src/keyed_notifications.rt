@@ -10,6 +10,7 @@ ghost use Rattle.mono_sync.specs.KeyedNotices.{AwaitsAt, GivesUpAt, NotifiesOneA
 ghost use Rattle.mono_sync.specs.Spent.{notified_at_spent};
 ghost use Rattle.mono_task.specs.Owed.{Keeps};
 
+use crate::lines::Ticket;
 use crate::notices::{Notify, Notifying};
 use crate::parts::Holds;
 use crate::tables::Many;
@@ -22,7 +23,7 @@ use std::marker::PhantomData;
 #[derive(Drop)]
 pub struct NotifiedAt<W> {
     pub(crate) key: u64,
-    pub(crate) ticket: Option<u64>,
+    pub(crate) ticket: Option<Ticket>,
     pub(crate) has_answered: bool,
     shared: PhantomData<W>,
 }
@@ -56,7 +57,7 @@ impl<W> NotifiedAt<W> {
 fn ask_table(
     notices: &mut Many<Notify>,
     key: u64,
-    ticket: Option<u64>,
+    ticket: Option<Ticket>,
     me: u64,
 ) -> Option<Notifying>
     ensures answer { AwaitsAt key notices.old ticket me result notices.new }
@@ -73,7 +74,7 @@ fn ask_table(
 fn ask_part<W: Holds<Many<Notify>>>(
     whole: &mut W,
     key: u64,
-    ticket: Option<u64>,
+    ticket: Option<Ticket>,
     me: u64,
 ) -> Option<Notifying>
     ensures answer { AwaitsAt key (W.part whole.old) ticket me result (W.part whole.new) }
@@ -87,7 +88,7 @@ fn ask_part<W: Holds<Many<Notify>>>(
 fn ask<W: Holds<Many<Notify>>, C: SharedContext<W>>(
     cx: &mut C,
     key: u64,
-    ticket: Option<u64>,
+    ticket: Option<Ticket>,
 ) -> Option<Notifying>
     ensures answer { AwaitsAt key (W.part (C.shared cx.old)) ticket (C.number cx.old) result (W.part (C.shared cx.new)) }
     ensures work { C.work cx.new ≡ C.work cx.old }
@@ -108,33 +109,33 @@ impl<W: Holds<Many<Notify>>> NotifiedAt<W> {
         ensures again { OnPending result (self.new.has_answered ≡ false) }
         ensures reached { C.reaches cx.old cx.new }
     {
-        match ask::<W, C>(cx, self.key, self.ticket) {
-            Some(Notifying::Waits) => Poll::Pending,
-            Some(Notifying::Joined(ticket)) => {
+        let Some(answer) = ask::<W, C>(cx, self.key, self.ticket) else {
+            self.ticket = None;
+            self.has_answered = true;
+            return Poll::Ready(Err(NotifiedAtError::Missing));
+        };
+        match answer {
+            Notifying::Waits => Poll::Pending,
+            Notifying::Joined(ticket) => {
                 self.ticket = Some(ticket);
                 Poll::Pending
             }
-            Some(Notifying::Notified) => {
+            Notifying::Notified => {
                 self.ticket = None;
                 self.has_answered = true;
                 Poll::Ready(Ok(()))
             }
-            Some(Notifying::Memory) => {
+            Notifying::Memory => {
                 self.ticket = None;
                 self.has_answered = true;
                 Poll::Ready(Err(NotifiedAtError::Memory))
-            }
-            None => {
-                self.ticket = None;
-                self.has_answered = true;
-                Poll::Ready(Err(NotifiedAtError::Missing))
             }
         }
     }
 }
 
 // Takes a future out of the line of the notice with this key.
-fn leave_table(notices: &mut Many<Notify>, key: u64, ticket: Option<u64>, me: u64)
+fn leave_table(notices: &mut Many<Notify>, key: u64, ticket: Option<Ticket>, me: u64)
     ensures answer { GivesUpAt key notices.old ticket me notices.new }
     ensures leads { LeadsEach (Leads Step) waiting_in owed_by notices.old notices.new }
     ensures keeps { Keeps (lists_each listed_by) me notices.old notices.new }
@@ -146,7 +147,7 @@ fn leave_table(notices: &mut Many<Notify>, key: u64, ticket: Option<u64>, me: u6
 }
 
 // Takes a future out of the line of the notice with this key, in the whole.
-fn leave_part<W: Holds<Many<Notify>>>(whole: &mut W, key: u64, ticket: Option<u64>, me: u64)
+fn leave_part<W: Holds<Many<Notify>>>(whole: &mut W, key: u64, ticket: Option<Ticket>, me: u64)
     ensures answer { GivesUpAt key (W.part whole.old) ticket me (W.part whole.new) }
     ensures leads { W.leads whole.old whole.new }
     ensures keeps { Keeps W.lists me whole.old whole.new }
@@ -155,7 +156,7 @@ fn leave_part<W: Holds<Many<Notify>>>(whole: &mut W, key: u64, ticket: Option<u6
 }
 
 // Takes a future out of the line of the notice with this key, for the running task.
-fn leave<W: Holds<Many<Notify>>, C: SharedContext<W>>(cx: &mut C, key: u64, ticket: Option<u64>)
+fn leave<W: Holds<Many<Notify>>, C: SharedContext<W>>(cx: &mut C, key: u64, ticket: Option<Ticket>)
     ensures answer { GivesUpAt key (W.part (C.shared cx.old)) ticket (C.number cx.old) (W.part (C.shared cx.new)) }
     ensures work { C.work cx.new ≡ C.work cx.old }
     ensures reached { C.reaches cx.old cx.new }

@@ -9,6 +9,7 @@ ghost use Rattle.mono_sync.specs.KeyedPermits.{AcquiresAt, GivesUpAt, TriesToAcq
 ghost use Rattle.mono_sync.specs.Spent.{acquire_at_spent};
 ghost use Rattle.mono_task.specs.Owed.{Keeps};
 
+use crate::lines::Ticket;
 use crate::parts::Holds;
 use crate::permits::AcquireError;
 use crate::semaphores::{Acquiring, Semaphore, TooManyPermits, TryAcquireError};
@@ -22,7 +23,7 @@ use std::marker::PhantomData;
 #[derive(Drop)]
 pub struct AcquireAt<W> {
     pub(crate) key: u64,
-    pub(crate) ticket: Option<u64>,
+    pub(crate) ticket: Option<Ticket>,
     pub(crate) has_answered: bool,
     shared: PhantomData<W>,
 }
@@ -44,7 +45,12 @@ impl<W> AcquireAt<W> {
 }
 
 // Asks the semaphore with this key for a future of this task.
-fn ask_table(semaphores: &mut Many<Semaphore>, key: u64, ticket: Option<u64>, me: u64) -> Acquiring
+fn ask_table(
+    semaphores: &mut Many<Semaphore>,
+    key: u64,
+    ticket: Option<Ticket>,
+    me: u64,
+) -> Acquiring
     ensures answer { AcquiresAt key semaphores.old ticket me result semaphores.new }
     ensures leads { LeadsEach Leads waiting_in owed_by semaphores.old semaphores.new }
     ensures keeps { Keeps (lists_each listed_by) me semaphores.old semaphores.new }
@@ -59,7 +65,7 @@ fn ask_table(semaphores: &mut Many<Semaphore>, key: u64, ticket: Option<u64>, me
 fn ask_part<W: Holds<Many<Semaphore>>>(
     whole: &mut W,
     key: u64,
-    ticket: Option<u64>,
+    ticket: Option<Ticket>,
     me: u64,
 ) -> Acquiring
     ensures answer { AcquiresAt key (W.part whole.old) ticket me result (W.part whole.new) }
@@ -73,7 +79,7 @@ fn ask_part<W: Holds<Many<Semaphore>>>(
 fn ask<W: Holds<Many<Semaphore>>, C: SharedContext<W>>(
     cx: &mut C,
     key: u64,
-    ticket: Option<u64>,
+    ticket: Option<Ticket>,
 ) -> Acquiring
     ensures answer { AcquiresAt key (W.part (C.shared cx.old)) ticket (C.number cx.old) result (W.part (C.shared cx.new)) }
     ensures work { C.work cx.new ≡ C.work cx.old }
@@ -84,7 +90,7 @@ fn ask<W: Holds<Many<Semaphore>>, C: SharedContext<W>>(
 }
 
 // Takes a future out of the line of the semaphore with this key.
-fn leave_table(semaphores: &mut Many<Semaphore>, key: u64, ticket: Option<u64>, me: u64)
+fn leave_table(semaphores: &mut Many<Semaphore>, key: u64, ticket: Option<Ticket>, me: u64)
     ensures answer { GivesUpAt key semaphores.old ticket me semaphores.new }
     ensures leads { LeadsEach Leads waiting_in owed_by semaphores.old semaphores.new }
     ensures keeps { Keeps (lists_each listed_by) me semaphores.old semaphores.new }
@@ -96,7 +102,7 @@ fn leave_table(semaphores: &mut Many<Semaphore>, key: u64, ticket: Option<u64>, 
 }
 
 // Takes a future out of the line of the semaphore with this key, in the whole.
-fn leave_part<W: Holds<Many<Semaphore>>>(whole: &mut W, key: u64, ticket: Option<u64>, me: u64)
+fn leave_part<W: Holds<Many<Semaphore>>>(whole: &mut W, key: u64, ticket: Option<Ticket>, me: u64)
     ensures answer { GivesUpAt key (W.part whole.old) ticket me (W.part whole.new) }
     ensures leads { W.leads whole.old whole.new }
     ensures keeps { Keeps W.lists me whole.old whole.new }
@@ -105,7 +111,11 @@ fn leave_part<W: Holds<Many<Semaphore>>>(whole: &mut W, key: u64, ticket: Option
 }
 
 // Takes the running task's future out of the line of the semaphore with this key.
-fn leave<W: Holds<Many<Semaphore>>, C: SharedContext<W>>(cx: &mut C, key: u64, ticket: Option<u64>)
+fn leave<W: Holds<Many<Semaphore>>, C: SharedContext<W>>(
+    cx: &mut C,
+    key: u64,
+    ticket: Option<Ticket>,
+)
     ensures answer { GivesUpAt key (W.part (C.shared cx.old)) ticket (C.number cx.old) (W.part (C.shared cx.new)) }
     ensures work { C.work cx.new ≡ C.work cx.old }
     ensures reached { C.reaches cx.old cx.new }

@@ -38,7 +38,7 @@ pub use boths::Both;
 pub use keyed_notifications::{NotifiedAt, NotifiedAtError, notify_one_at, notify_waiters_at};
 pub use keyed_permits::AcquireAt;
 pub use kinds::{Tables, empty_tables};
-pub use lines::{Line, Waiter};
+pub use lines::{Line, Ticket, Waiter};
 pub use making::{make, remove};
 pub use notices::{Notify, Notifying};
 pub use notifications::{Notified, notify_one, notify_waiters};

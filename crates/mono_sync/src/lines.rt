@@ -6,6 +6,33 @@ ghost use Rattle.std.specs.List.{list_any};
 
 use std::alloc::{AllocError, Global};
 use std::collections::VecDeque;
+use std::marker::Model;
+
+/// The ticket that a future drew at a line. Only a line makes one.
+#[derive(Debug, Clone, Copy)]
+pub struct Ticket {
+    number: u64,
+}
+
+/// In clauses a ticket is its number.
+impl Model for Ticket {
+    ghost use Rattle.std.specs.Prelude.{ℕ};
+
+    ghost Value = { ℕ };
+
+    ghost view = { λ a. a.number };
+
+    ghost inverse = { λ n. record { number = n } };
+}
+
+impl Ticket {
+    /// Returns the number of the ticket. A line counts its tickets from 0.
+    pub fn number(self) -> u64
+        ensures { result ≡ self }
+    {
+        self.number
+    }
+}
 
 /// A waiting task, with the ticket that its future drew.
 #[derive(Clone, Copy)]
@@ -69,10 +96,10 @@ impl Line {
     }
 
     /// Returns the task that waits with this ticket.
-    pub fn holder_of(&self, ticket: u64) -> Option<u64>
+    pub fn holder_of(&self, ticket: Ticket) -> Option<u64>
         ensures { result ≡ holder_of self.now.waiters.items ticket }
     {
-        match self.place_of(ticket) {
+        match self.place_of(ticket.number()) {
             None => None,
             Some(place) => Some(self.waiters[place].task),
         }
@@ -109,9 +136,9 @@ impl Line {
     }
 
     /// Answers a future of this task that asks with the ticket that it drew, if any. A future that was served collects
-    /// its grant. One that waits for another task has left its place: that task is woken in its turn. A number that was never
-    /// drawn is no ticket.
-    pub fn come(&mut self, ticket: Option<u64>, me: u64, room: usize) -> Coming
+    /// its grant. One that waits for another task has left its place: that task is woken in its turn. A ticket of another
+    /// line is none, if this line never drew its number.
+    pub fn come(&mut self, ticket: Option<Ticket>, me: u64, room: usize) -> Coming
         ensures comes { Comes self.old ticket me room result self.new }
         ensures some { result ≡ Free → 0 < room }
     {
@@ -119,7 +146,7 @@ impl Line {
             None => Line::answer(self.has_room(room)),
             Some(ticket) => match self.holder_of(ticket) {
                 None => {
-                    if ticket < self.next {
+                    if ticket.number() < self.next {
                         self.granted = self.granted.saturating_sub(1);
                         return Line::answer(self.granted < room);
                     }
@@ -129,7 +156,7 @@ impl Line {
                     if task == me {
                         return Coming::Waits;
                     }
-                    self.mark(ticket, task);
+                    self.mark(ticket.number(), task);
                     Line::answer(self.has_room(room))
                 }
             },
@@ -137,7 +164,7 @@ impl Line {
     }
 
     /// Appends a task to the line, and returns its ticket. Refused if out of memory, or if no ticket is left.
-    pub fn join(&mut self, task: u64) -> Result<u64, AllocError>
+    pub fn join(&mut self, task: u64) -> Result<Ticket, AllocError>
         ensures { Joins self.old task result self.new }
     {
         let ticket = self.next;
@@ -151,31 +178,33 @@ impl Line {
         }) {
             Ok(()) => {
                 self.next = next;
-                Ok(ticket)
+                Ok(Ticket { number: ticket })
             }
             Err(_) => Err(AllocError),
         }
     }
 
     /// Takes a future out of the line, in a turn of this task. If it was served, its grant is free again. If it waits for
-    /// another task, that task is woken in its turn. A number that was never drawn changes nothing.
-    pub fn leave(&mut self, ticket: Option<u64>, me: u64)
+    /// another task, that task is woken in its turn. A ticket of another line changes nothing, if this line never drew its
+    /// number.
+    pub fn leave(&mut self, ticket: Option<Ticket>, me: u64)
         ensures { Leaves self.old ticket me self.new }
     {
         if let Some(ticket) = ticket {
             match self.holder_of(ticket) {
                 None => {
-                    if ticket < self.next {
+                    if ticket.number() < self.next {
                         self.granted = self.granted.saturating_sub(1);
                     }
                 }
                 Some(task) => {
+                    let number = ticket.number();
                     if task == me {
                         self.waiters
-                            .retain(|w| !(w.ticket == ticket && w.task == me));
+                            .retain(|w| !(w.ticket == number && w.task == me));
                         return;
                     }
-                    self.mark(ticket, task);
+                    self.mark(number, task);
                 }
             }
         }

@@ -7,6 +7,7 @@ ghost use Rattle.mono_sync.specs.Messages.{SendPolls, SendGives, SendCancels, Re
 ghost use Rattle.mono_sync.specs.Spent.{send_spent, recv_spent};
 ghost use Rattle.mono_task.specs.Owed.{Keeps};
 
+use crate::lines::Ticket;
 use crate::mpsc::{Channel, Receiving, Sending, TryRecvError, TrySendError};
 use crate::parts::Holds;
 use mono_model::{Host, Poll};
@@ -20,14 +21,14 @@ use std::mem;
 pub struct Send<W, T> {
     // The message, until it is sent.
     pub(crate) message: Option<T>,
-    pub(crate) ticket: Option<u64>,
+    pub(crate) ticket: Option<Ticket>,
     shared: PhantomData<W>,
 }
 
 /// A future that receives a message over the tasks' channel, and waits while there is none.
 #[derive(Drop)]
 pub struct Recv<W, T> {
-    pub(crate) ticket: Option<u64>,
+    pub(crate) ticket: Option<Ticket>,
     pub(crate) has_answered: bool,
     shared: PhantomData<W>,
     message: PhantomData<T>,
@@ -95,7 +96,7 @@ pub(crate) fn try_recv_part<W: Holds<Channel<T>>, T: Drop>(whole: &mut W) -> Res
 // Asks the channel for a future of this task that sends.
 fn send_part<W: Holds<Channel<T>>, T: Drop>(
     whole: &mut W,
-    ticket: Option<u64>,
+    ticket: Option<Ticket>,
     message: T,
     me: u64,
 ) -> Sending<T>
@@ -109,7 +110,7 @@ fn send_part<W: Holds<Channel<T>>, T: Drop>(
 // Asks the channel for a future of this task that receives.
 fn recv_part<W: Holds<Channel<T>>, T: Drop>(
     whole: &mut W,
-    ticket: Option<u64>,
+    ticket: Option<Ticket>,
     me: u64,
 ) -> Receiving<T>
     ensures answer { Receives (W.part whole.old) ticket me result (W.part whole.new) }
@@ -120,7 +121,7 @@ fn recv_part<W: Holds<Channel<T>>, T: Drop>(
 }
 
 // Takes a future out of the line of senders.
-fn leave_send_part<W: Holds<Channel<T>>, T: Drop>(whole: &mut W, ticket: Option<u64>, me: u64)
+fn leave_send_part<W: Holds<Channel<T>>, T: Drop>(whole: &mut W, ticket: Option<Ticket>, me: u64)
     ensures answer { GivesUpSend (W.part whole.old) ticket me (W.part whole.new) }
     ensures leads { W.leads whole.old whole.new }
     ensures keeps { Keeps W.lists me whole.old whole.new }
@@ -129,7 +130,7 @@ fn leave_send_part<W: Holds<Channel<T>>, T: Drop>(whole: &mut W, ticket: Option<
 }
 
 // Takes a future out of the line of receivers.
-fn leave_recv_part<W: Holds<Channel<T>>, T: Drop>(whole: &mut W, ticket: Option<u64>, me: u64)
+fn leave_recv_part<W: Holds<Channel<T>>, T: Drop>(whole: &mut W, ticket: Option<Ticket>, me: u64)
     ensures answer { GivesUpReceive (W.part whole.old) ticket me (W.part whole.new) }
     ensures leads { W.leads whole.old whole.new }
     ensures keeps { Keeps W.lists me whole.old whole.new }
@@ -149,7 +150,7 @@ pub(crate) fn close_part<W: Holds<Channel<T>>, T: Drop>(whole: &mut W)
 // Asks the channel for the running task's future that sends.
 fn ask_send<W: Holds<Channel<T>>, T: Drop, C: SharedContext<W>>(
     cx: &mut C,
-    ticket: Option<u64>,
+    ticket: Option<Ticket>,
     message: T,
 ) -> Sending<T>
     ensures answer { Sends (W.part (C.shared cx.old)) ticket message (C.number cx.old) result (W.part (C.shared cx.new)) }
@@ -163,7 +164,7 @@ fn ask_send<W: Holds<Channel<T>>, T: Drop, C: SharedContext<W>>(
 // Asks the channel for the running task's future that receives.
 fn ask_recv<W: Holds<Channel<T>>, T: Drop, C: SharedContext<W>>(
     cx: &mut C,
-    ticket: Option<u64>,
+    ticket: Option<Ticket>,
 ) -> Receiving<T>
     ensures answer { Receives (W.part (C.shared cx.old)) ticket (C.number cx.old) result (W.part (C.shared cx.new)) }
     ensures work { C.work cx.new ≡ C.work cx.old }
@@ -174,7 +175,10 @@ fn ask_recv<W: Holds<Channel<T>>, T: Drop, C: SharedContext<W>>(
 }
 
 // Takes the running task's future out of the line of senders.
-fn leave_send<W: Holds<Channel<T>>, T: Drop, C: SharedContext<W>>(cx: &mut C, ticket: Option<u64>)
+fn leave_send<W: Holds<Channel<T>>, T: Drop, C: SharedContext<W>>(
+    cx: &mut C,
+    ticket: Option<Ticket>,
+)
     ensures answer { GivesUpSend (W.part (C.shared cx.old)) ticket (C.number cx.old) (W.part (C.shared cx.new)) }
     ensures work { C.work cx.new ≡ C.work cx.old }
     ensures reached { C.reaches cx.old cx.new }
@@ -184,7 +188,10 @@ fn leave_send<W: Holds<Channel<T>>, T: Drop, C: SharedContext<W>>(cx: &mut C, ti
 }
 
 // Takes the running task's future out of the line of receivers.
-fn leave_recv<W: Holds<Channel<T>>, T: Drop, C: SharedContext<W>>(cx: &mut C, ticket: Option<u64>)
+fn leave_recv<W: Holds<Channel<T>>, T: Drop, C: SharedContext<W>>(
+    cx: &mut C,
+    ticket: Option<Ticket>,
+)
     ensures answer { GivesUpReceive (W.part (C.shared cx.old)) ticket (C.number cx.old) (W.part (C.shared cx.new)) }
     ensures work { C.work cx.new ≡ C.work cx.old }
     ensures reached { C.reaches cx.old cx.new }

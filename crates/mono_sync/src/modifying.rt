@@ -8,6 +8,7 @@ ghost use Rattle.mono_sync.specs.Modifies.{Modifies, ModifiesIf};
 ghost use Rattle.mono_sync.specs.WaitsFor.{WaitsFor};
 ghost use Rattle.mono_task.specs.Owed.{Keeps};
 
+use crate::lines::Ticket;
 use crate::watch::{Changing, Watch};
 
 impl<T> Watch<T> {
@@ -85,7 +86,7 @@ impl<T: Drop> Watch<T> {
     pub fn wait_for<F: Fn(&T) -> bool>(
         &mut self,
         func: &F,
-        ticket: Option<u64>,
+        ticket: Option<Ticket>,
         me: u64,
     ) -> Changing
         requires callable { F.IsAlwaysCallable func.now }

@@ -7,7 +7,7 @@ ghost use Rattle.mono_sync.specs.Listed.{channel_some};
 ghost use Rattle.mono_task.specs.Owed.{Keeps};
 
 pub use crate::keyed_messages::{RecvAt, SendAt, close_at, try_recv_at, try_send_at};
-use crate::lines::{Coming, Line, Waiter};
+use crate::lines::{Coming, Line, Ticket, Waiter};
 pub use crate::messages::{Recv, Send, SendError, close, try_recv, try_send};
 use mono_task::SharedState;
 use std::alloc::Global;
@@ -56,7 +56,7 @@ pub enum Sending<T> {
     /// The allocation failed. The message comes back.
     Memory(T),
     /// The future waits from now on, with this ticket. The message comes back.
-    Joined(u64, T),
+    Joined(Ticket, T),
     /// The future still waits. The message comes back.
     Waits(T),
 }
@@ -71,7 +71,7 @@ pub enum Receiving<T> {
     /// The allocation of a place in the line failed.
     Memory,
     /// The future waits from now on, with this ticket.
-    Joined(u64),
+    Joined(Ticket),
     /// The future still waits.
     Waits,
 }
@@ -208,7 +208,7 @@ impl<T: Drop> Channel<T> {
     }
 
     // Queues a message for a future of this task, or makes the future wait.
-    fn ask_send(&mut self, ticket: Option<u64>, message: T, me: u64) -> Sending<T>
+    fn ask_send(&mut self, ticket: Option<Ticket>, message: T, me: u64) -> Sending<T>
         ensures { Sends self.old ticket message me result self.new }
     {
         if self.is_closed {
@@ -231,7 +231,7 @@ impl<T: Drop> Channel<T> {
 
     /// Sends a message for a future of this task, or makes the future wait for the task. The ticket is the one that the
     /// future drew before.
-    pub fn send(&mut self, ticket: Option<u64>, message: T, me: u64) -> Sending<T>
+    pub fn send(&mut self, ticket: Option<Ticket>, message: T, me: u64) -> Sending<T>
         ensures answer { Sends self.old ticket message me result self.new }
         ensures keeps { Keeps listed_by me self.old self.new }
     {
@@ -239,7 +239,7 @@ impl<T: Drop> Channel<T> {
     }
 
     // Takes the first message for a future of this task, or makes the future wait.
-    fn ask_recv(&mut self, ticket: Option<u64>, me: u64) -> Receiving<T>
+    fn ask_recv(&mut self, ticket: Option<Ticket>, me: u64) -> Receiving<T>
         ensures { Receives self.old ticket me result self.new }
     {
         if self.is_closed {
@@ -264,7 +264,7 @@ impl<T: Drop> Channel<T> {
 
     /// Receives a message for a future of this task, or makes the future wait for the task. The ticket is the one that
     /// the future drew before.
-    pub fn recv(&mut self, ticket: Option<u64>, me: u64) -> Receiving<T>
+    pub fn recv(&mut self, ticket: Option<Ticket>, me: u64) -> Receiving<T>
         ensures answer { Receives self.old ticket me result self.new }
         ensures keeps { Keeps listed_by me self.old self.new }
     {
@@ -273,7 +273,7 @@ impl<T: Drop> Channel<T> {
 
     /// Takes a future out of the line of senders, in a turn of this task. Its reserved place, if any, is owed to the first
     /// task that waits.
-    pub fn give_up_send(&mut self, ticket: Option<u64>, me: u64)
+    pub fn give_up_send(&mut self, ticket: Option<Ticket>, me: u64)
         ensures answer { GivesUpSend self.old ticket me self.new }
         ensures keeps { Keeps listed_by me self.old self.new }
     {
@@ -282,7 +282,7 @@ impl<T: Drop> Channel<T> {
 
     /// Takes a future out of the line of receivers, in a turn of this task. Its promised message, if any, is owed to the
     /// first task that waits.
-    pub fn give_up_recv(&mut self, ticket: Option<u64>, me: u64)
+    pub fn give_up_recv(&mut self, ticket: Option<Ticket>, me: u64)
         ensures answer { GivesUpReceive self.old ticket me self.new }
         ensures keeps { Keeps listed_by me self.old self.new }
     {

@@ -7,7 +7,7 @@ ghost use Rattle.mono_sync.specs.Lines.{has_task};
 ghost use Rattle.mono_sync.specs.Listed.{notice_some};
 ghost use Rattle.mono_task.specs.Owed.{Keeps};
 
-use crate::lines::{Coming, Line, Waiter};
+use crate::lines::{Coming, Line, Ticket, Waiter};
 use mono_task::SharedState;
 use std::alloc::Global;
 
@@ -42,7 +42,7 @@ pub enum Notifying {
     /// The allocation of a place in the line failed.
     Memory,
     /// The future waits from now on, with this ticket.
-    Joined(u64),
+    Joined(Ticket),
     /// The future still waits.
     Waits,
 }
@@ -158,14 +158,14 @@ impl Notify {
     }
 
     // Answers a future of this task that drew this ticket.
-    fn ask_again(&mut self, ticket: u64, me: u64) -> Notifying
+    fn ask_again(&mut self, ticket: Ticket, me: u64) -> Notifying
         ensures { AwaitsAgain self.old ticket me result self.new }
     {
         match self.line.come(Some(ticket), me, 1) {
             Coming::Waits => Notifying::Waits,
             Coming::Free => Notifying::Notified,
             Coming::Full => {
-                if ticket < self.cleared.next {
+                if ticket.number() < self.cleared.next {
                     return Notifying::Notified;
                 }
                 match self.line.join(me) {
@@ -177,13 +177,13 @@ impl Notify {
     }
 
     // Answers a future of this task, or makes it wait.
-    fn ask(&mut self, ticket: Option<u64>, me: u64) -> Notifying
+    fn ask(&mut self, ticket: Option<Ticket>, me: u64) -> Notifying
         ensures { Awaits self.old ticket me result self.new }
     {
         match ticket {
             None => self.ask_first(me),
             Some(ticket) => {
-                if ticket < self.line.next {
+                if ticket.number() < self.line.next {
                     return self.ask_again(ticket, me);
                 }
                 self.ask_first(me)
@@ -192,7 +192,7 @@ impl Notify {
     }
 
     /// Answers a future of this task, or makes it wait. The ticket is the one that the future drew before.
-    pub fn notified(&mut self, ticket: Option<u64>, me: u64) -> Notifying
+    pub fn notified(&mut self, ticket: Option<Ticket>, me: u64) -> Notifying
         ensures answer { Awaits self.old ticket me result self.new }
         ensures keeps { Keeps listed_by me self.old self.new }
     {
@@ -217,17 +217,17 @@ impl Notify {
     }
 
     // Takes a future out of the line, and passes on a notice to one that it had at the last notice to all.
-    fn leave(&mut self, ticket: u64, me: u64)
+    fn leave(&mut self, ticket: Ticket, me: u64)
         ensures { LeavesLine self.old ticket me self.new }
     {
         self.line.leave(Some(ticket), me);
-        if self.had_notice(ticket) {
+        if self.had_notice(ticket.number()) {
             self.give();
         }
     }
 
     // Takes a future out of the line, or passes its notice on.
-    fn drop_out(&mut self, ticket: Option<u64>, me: u64)
+    fn drop_out(&mut self, ticket: Option<Ticket>, me: u64)
         ensures { GivesUp self.old ticket me self.new }
     {
         if let Some(ticket) = ticket {
@@ -235,7 +235,7 @@ impl Notify {
                 self.leave(ticket, me);
                 return;
             }
-            if self.was_alone(ticket) {
+            if self.was_alone(ticket.number()) {
                 self.give();
             }
         }
@@ -244,7 +244,7 @@ impl Notify {
     /// Takes a future out of the line, in a turn of this task. If it was notified by `notify_one`, the notice goes to the
     /// first task that waits and has none, or is kept. If two `notify_waiters` came since its first poll, it passes nothing
     /// on.
-    pub fn give_up(&mut self, ticket: Option<u64>, me: u64)
+    pub fn give_up(&mut self, ticket: Option<Ticket>, me: u64)
         ensures answer { GivesUp self.old ticket me self.new }
         ensures keeps { Keeps listed_by me self.old self.new }
     {

@@ -7,6 +7,7 @@ ghost use Rattle.mono_sync.specs.Notifications.{NotifiedPolls, NotifiedGives, No
 ghost use Rattle.mono_sync.specs.Spent.{notified_spent};
 ghost use Rattle.mono_task.specs.Owed.{Keeps};
 
+use crate::lines::Ticket;
 use crate::notices::{Notify, Notifying};
 use crate::parts::Holds;
 use mono_model::{Host, Poll};
@@ -17,7 +18,7 @@ use std::marker::PhantomData;
 /// A future that waits for a notice that the tasks share.
 #[derive(Drop)]
 pub struct Notified<W> {
-    pub(crate) ticket: Option<u64>,
+    pub(crate) ticket: Option<Ticket>,
     pub(crate) has_answered: bool,
     shared: PhantomData<W>,
 }
@@ -37,7 +38,7 @@ impl<W> Notified<W> {
 }
 
 // Asks the notice for a future of this task.
-fn ask_part<W: Holds<Notify>>(whole: &mut W, ticket: Option<u64>, me: u64) -> Notifying
+fn ask_part<W: Holds<Notify>>(whole: &mut W, ticket: Option<Ticket>, me: u64) -> Notifying
     ensures answer { Awaits (W.part whole.old) ticket me result (W.part whole.new) }
     ensures leads { W.leads whole.old whole.new }
     ensures keeps { Keeps W.lists me whole.old whole.new }
@@ -46,7 +47,7 @@ fn ask_part<W: Holds<Notify>>(whole: &mut W, ticket: Option<u64>, me: u64) -> No
 }
 
 // Takes a future out of the line.
-fn leave_part<W: Holds<Notify>>(whole: &mut W, ticket: Option<u64>, me: u64)
+fn leave_part<W: Holds<Notify>>(whole: &mut W, ticket: Option<Ticket>, me: u64)
     ensures answer { GivesUp (W.part whole.old) ticket me (W.part whole.new) }
     ensures leads { W.leads whole.old whole.new }
     ensures keeps { Keeps W.lists me whole.old whole.new }
@@ -73,7 +74,7 @@ pub(crate) fn all_part<W: Holds<Notify>>(whole: &mut W)
 }
 
 // Asks the notice for the running task's future.
-fn ask<W: Holds<Notify>, C: SharedContext<W>>(cx: &mut C, ticket: Option<u64>) -> Notifying
+fn ask<W: Holds<Notify>, C: SharedContext<W>>(cx: &mut C, ticket: Option<Ticket>) -> Notifying
     ensures answer { Awaits (W.part (C.shared cx.old)) ticket (C.number cx.old) result (W.part (C.shared cx.new)) }
     ensures work { C.work cx.new ≡ C.work cx.old }
     ensures reached { C.reaches cx.old cx.new }
@@ -83,7 +84,7 @@ fn ask<W: Holds<Notify>, C: SharedContext<W>>(cx: &mut C, ticket: Option<u64>) -
 }
 
 // Takes the running task's future out of the line.
-fn leave<W: Holds<Notify>, C: SharedContext<W>>(cx: &mut C, ticket: Option<u64>)
+fn leave<W: Holds<Notify>, C: SharedContext<W>>(cx: &mut C, ticket: Option<Ticket>)
     ensures answer { GivesUp (W.part (C.shared cx.old)) ticket (C.number cx.old) (W.part (C.shared cx.new)) }
     ensures work { C.work cx.new ≡ C.work cx.old }
     ensures reached { C.reaches cx.old cx.new }

@@ -10,7 +10,7 @@ ghost use Rattle.mono_task.specs.Owed.{Keeps};
 
 pub use crate::deliveries::{Recv, RecvError, close, send};
 pub use crate::keyed_deliveries::{RecvAt, close_at, send_at};
-use crate::lines::{Coming, Line, Waiter};
+use crate::lines::{Coming, Line, Ticket, Waiter};
 use mono_task::SharedState;
 use std::alloc::Global;
 use std::mem;
@@ -48,7 +48,7 @@ pub enum Receiving<T> {
     /// The allocation of a place in the line failed.
     Memory,
     /// The future waits from now on, with this ticket.
-    Joined(u64),
+    Joined(Ticket),
     /// The future still waits.
     Waits,
 }
@@ -164,7 +164,7 @@ impl<T: Drop> Oneshot<T> {
     }
 
     // Takes the message for a future of this task, or makes the future wait.
-    fn ask(&mut self, ticket: Option<u64>, me: u64) -> Receiving<T>
+    fn ask(&mut self, ticket: Option<Ticket>, me: u64) -> Receiving<T>
         ensures { Receives self.old ticket me result self.new }
     {
         if self.is_over() {
@@ -194,7 +194,7 @@ impl<T: Drop> Oneshot<T> {
 
     /// Takes the message for a future of this task, or makes the future wait. The ticket is the one that the future drew
     /// before. Refused with `Taken` if another future waits, or was woken for the message and has not asked yet.
-    pub fn recv(&mut self, ticket: Option<u64>, me: u64) -> Receiving<T>
+    pub fn recv(&mut self, ticket: Option<Ticket>, me: u64) -> Receiving<T>
         ensures answer { Receives self.old ticket me result self.new }
         ensures keeps { Keeps listed_by me self.old self.new }
     {
@@ -210,7 +210,7 @@ impl<T: Drop> Oneshot<T> {
     }
 
     /// Takes a future out of the line, in a turn of this task.
-    pub fn give_up(&mut self, ticket: Option<u64>, me: u64)
+    pub fn give_up(&mut self, ticket: Option<Ticket>, me: u64)
         ensures answer { GivesUp self.old ticket me self.new }
         ensures keeps { Keeps listed_by me self.old self.new }
     {

@@ -8,6 +8,7 @@ ghost use Rattle.mono_sync.specs.Spent.{acquire_spent};
 ghost use Rattle.mono_task.specs.Owed.{Keeps};
 
 pub use crate::keyed_permits::{close_at, release_at, try_acquire_at};
+use crate::lines::Ticket;
 use crate::parts::Holds;
 use crate::semaphores::{Acquiring, Semaphore, TooManyPermits, TryAcquireError};
 use mono_model::{Host, Poll};
@@ -18,7 +19,7 @@ use std::marker::PhantomData;
 /// A future that acquires a permit of the tasks' semaphore, and waits for one if none is free.
 #[derive(Drop)]
 pub struct Acquire<W> {
-    pub(crate) ticket: Option<u64>,
+    pub(crate) ticket: Option<Ticket>,
     pub(crate) has_answered: bool,
     shared: PhantomData<W>,
 }
@@ -47,7 +48,7 @@ impl<W> Acquire<W> {
 }
 
 // Asks the semaphore for a future of this task.
-fn ask_part<W: Holds<Semaphore>>(whole: &mut W, ticket: Option<u64>, me: u64) -> Acquiring
+fn ask_part<W: Holds<Semaphore>>(whole: &mut W, ticket: Option<Ticket>, me: u64) -> Acquiring
     ensures answer { Acquires (W.part whole.old) ticket me result (W.part whole.new) }
     ensures leads { W.leads whole.old whole.new }
     ensures keeps { Keeps W.lists me whole.old whole.new }
@@ -56,7 +57,7 @@ fn ask_part<W: Holds<Semaphore>>(whole: &mut W, ticket: Option<u64>, me: u64) ->
 }
 
 // Takes a future out of the line.
-fn leave_part<W: Holds<Semaphore>>(whole: &mut W, ticket: Option<u64>, me: u64)
+fn leave_part<W: Holds<Semaphore>>(whole: &mut W, ticket: Option<Ticket>, me: u64)
     ensures answer { GivesUp (W.part whole.old) ticket me (W.part whole.new) }
     ensures leads { W.leads whole.old whole.new }
     ensures keeps { Keeps W.lists me whole.old whole.new }
@@ -92,7 +93,7 @@ pub(crate) fn close_part<W: Holds<Semaphore>>(whole: &mut W)
 }
 
 // Asks the semaphore for the running task's future.
-fn ask<W: Holds<Semaphore>, C: SharedContext<W>>(cx: &mut C, ticket: Option<u64>) -> Acquiring
+fn ask<W: Holds<Semaphore>, C: SharedContext<W>>(cx: &mut C, ticket: Option<Ticket>) -> Acquiring
     ensures answer { Acquires (W.part (C.shared cx.old)) ticket (C.number cx.old) result (W.part (C.shared cx.new)) }
     ensures work { C.work cx.new ≡ C.work cx.old }
     ensures reached { C.reaches cx.old cx.new }
@@ -102,7 +103,7 @@ fn ask<W: Holds<Semaphore>, C: SharedContext<W>>(cx: &mut C, ticket: Option<u64>
 }
 
 // Takes the running task's future out of the line.
-fn leave<W: Holds<Semaphore>, C: SharedContext<W>>(cx: &mut C, ticket: Option<u64>)
+fn leave<W: Holds<Semaphore>, C: SharedContext<W>>(cx: &mut C, ticket: Option<Ticket>)
     ensures answer { GivesUp (W.part (C.shared cx.old)) ticket (C.number cx.old) (W.part (C.shared cx.new)) }
     ensures work { C.work cx.new ≡ C.work cx.old }
     ensures reached { C.reaches cx.old cx.new }

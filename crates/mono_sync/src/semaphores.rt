@@ -6,7 +6,7 @@ ghost use Rattle.mono_sync.specs.Lines.{has_task};
 ghost use Rattle.mono_sync.specs.Listed.{semaphore_some};
 ghost use Rattle.mono_task.specs.Owed.{Keeps};
 
-use crate::lines::{Coming, Line, Waiter};
+use crate::lines::{Coming, Line, Ticket, Waiter};
 use mono_task::SharedState;
 use std::alloc::Global;
 
@@ -47,7 +47,7 @@ pub enum Acquiring {
     /// The allocation of a place in the line failed.
     Memory,
     /// The future waits from now on, with this ticket.
-    Joined(u64),
+    Joined(Ticket),
     /// The future still waits.
     Waits,
 }
@@ -126,7 +126,7 @@ impl Semaphore {
     }
 
     // Takes a permit for a future of this task, or makes it wait.
-    fn ask(&mut self, ticket: Option<u64>, me: u64) -> Acquiring
+    fn ask(&mut self, ticket: Option<Ticket>, me: u64) -> Acquiring
         ensures { Acquires self.old ticket me result self.new }
     {
         if self.is_closed {
@@ -148,7 +148,7 @@ impl Semaphore {
 
     /// Takes a permit for a future of this task, or makes the future wait. The ticket is the one that the future drew
     /// before.
-    pub fn acquire(&mut self, ticket: Option<u64>, me: u64) -> Acquiring
+    pub fn acquire(&mut self, ticket: Option<Ticket>, me: u64) -> Acquiring
         ensures answer { Acquires self.old ticket me result self.new }
         ensures keeps { Keeps listed_by me self.old self.new }
     {
@@ -171,7 +171,7 @@ impl Semaphore {
 
     /// Takes a future out of the line, in a turn of this task. Its permit, if it was served, is owed to the first task that
     /// waits.
-    pub fn give_up(&mut self, ticket: Option<u64>, me: u64)
+    pub fn give_up(&mut self, ticket: Option<Ticket>, me: u64)
         ensures answer { GivesUp self.old ticket me self.new }
         ensures keeps { Keeps listed_by me self.old self.new }
     {

@@ -7,6 +7,7 @@ ghost use Rattle.mono_sync.specs.Messages.{SendPolls, SendGives, SendCancels, Re
 ghost use Rattle.mono_sync.specs.TallySpent.{send_spent, recv_spent};
 ghost use Rattle.mono_task.specs.Owed.{Keeps};
 
+use crate::lines::Ticket;
 use crate::messages::SendError;
 use crate::mpsc::{Receiving, Sending};
 use crate::parts::Holds;
@@ -23,7 +24,7 @@ use std::mem;
 pub struct Send<W, T, S> {
     // The message, until it is sent.
     pub(crate) message: Option<T>,
-    pub(crate) ticket: Option<u64>,
+    pub(crate) ticket: Option<Ticket>,
     shared: PhantomData<W>,
     tally: PhantomData<S>,
 }
@@ -32,7 +33,7 @@ pub struct Send<W, T, S> {
 /// notes the message.
 #[derive(Drop)]
 pub struct Recv<W, T, S> {
-    pub(crate) ticket: Option<u64>,
+    pub(crate) ticket: Option<Ticket>,
     pub(crate) has_answered: bool,
     shared: PhantomData<W>,
     message: PhantomData<T>,
@@ -73,7 +74,7 @@ impl<W, T, S> Recv<W, T, S> {
 // Asks the channel for a future of this task that sends.
 fn send_part<W: Holds<Tallied<T, S>>, T: Drop, S: Tally<T>>(
     whole: &mut W,
-    ticket: Option<u64>,
+    ticket: Option<Ticket>,
     message: T,
     me: u64,
 ) -> Sending<T>
@@ -87,7 +88,7 @@ fn send_part<W: Holds<Tallied<T, S>>, T: Drop, S: Tally<T>>(
 // Asks the channel for a future of this task that receives.
 fn recv_part<W: Holds<Tallied<T, S>>, T: Drop, S: Tally<T>>(
     whole: &mut W,
-    ticket: Option<u64>,
+    ticket: Option<Ticket>,
     me: u64,
 ) -> Receiving<T>
     ensures answer { Receives (W.part whole.old).channel ticket me result (W.part whole.new).channel }
@@ -100,7 +101,7 @@ fn recv_part<W: Holds<Tallied<T, S>>, T: Drop, S: Tally<T>>(
 // Takes a future out of the line of senders.
 fn leave_send_part<W: Holds<Tallied<T, S>>, T: Drop, S: Tally<T>>(
     whole: &mut W,
-    ticket: Option<u64>,
+    ticket: Option<Ticket>,
     me: u64,
 )
     ensures answer { GivesUpSend (W.part whole.old).channel ticket me (W.part whole.new).channel }
@@ -113,7 +114,7 @@ fn leave_send_part<W: Holds<Tallied<T, S>>, T: Drop, S: Tally<T>>(
 // Takes a future out of the line of receivers.
 fn leave_recv_part<W: Holds<Tallied<T, S>>, T: Drop, S: Tally<T>>(
     whole: &mut W,
-    ticket: Option<u64>,
+    ticket: Option<Ticket>,
     me: u64,
 )
     ensures answer { GivesUpReceive (W.part whole.old).channel ticket me (W.part whole.new).channel }
@@ -135,7 +136,7 @@ pub(crate) fn close_part<W: Holds<Tallied<T, S>>, T: Drop, S: Tally<T>>(whole: &
 // Asks the channel for the running task's future that sends.
 fn ask_send<W: Holds<Tallied<T, S>>, T: Drop, S: Tally<T>, C: SharedContext<W>>(
     cx: &mut C,
-    ticket: Option<u64>,
+    ticket: Option<Ticket>,
     message: T,
 ) -> Sending<T>
     ensures answer { Sends (W.part (C.shared cx.old)).channel ticket message (C.number cx.old) result (W.part (C.shared cx.new)).channel }
@@ -149,7 +150,7 @@ fn ask_send<W: Holds<Tallied<T, S>>, T: Drop, S: Tally<T>, C: SharedContext<W>>(
 // Asks the channel for the running task's future that receives.
 fn ask_recv<W: Holds<Tallied<T, S>>, T: Drop, S: Tally<T>, C: SharedContext<W>>(
     cx: &mut C,
-    ticket: Option<u64>,
+    ticket: Option<Ticket>,
 ) -> Receiving<T>
     ensures answer { Receives (W.part (C.shared cx.old)).channel ticket (C.number cx.old) result (W.part (C.shared cx.new)).channel }
     ensures work { C.work cx.new ≡ C.work cx.old }
@@ -162,7 +163,7 @@ fn ask_recv<W: Holds<Tallied<T, S>>, T: Drop, S: Tally<T>, C: SharedContext<W>>(
 // Takes the running task's future out of the line of senders.
 fn leave_send<W: Holds<Tallied<T, S>>, T: Drop, S: Tally<T>, C: SharedContext<W>>(
     cx: &mut C,
-    ticket: Option<u64>,
+    ticket: Option<Ticket>,
 )
     ensures answer { GivesUpSend (W.part (C.shared cx.old)).channel ticket (C.number cx.old) (W.part (C.shared cx.new)).channel }
     ensures work { C.work cx.new ≡ C.work cx.old }
@@ -175,7 +176,7 @@ fn leave_send<W: Holds<Tallied<T, S>>, T: Drop, S: Tally<T>, C: SharedContext<W>
 // Takes the running task's future out of the line of receivers.
 fn leave_recv<W: Holds<Tallied<T, S>>, T: Drop, S: Tally<T>, C: SharedContext<W>>(
     cx: &mut C,
-    ticket: Option<u64>,
+    ticket: Option<Ticket>,
 )
     ensures answer { GivesUpReceive (W.part (C.shared cx.old)).channel ticket (C.number cx.old) (W.part (C.shared cx.new)).channel }
     ensures work { C.work cx.new ≡ C.work cx.old }

@@ -6,6 +6,7 @@ ghost use Rattle.mono_sync.specs.Lines.{has_task};
 ghost use Rattle.mono_sync.specs.Tallies.{TallyLeads, tally_itself, tally_on, tally_lists, tally_waiting, tally_owes, tally_some, SendsTallied, ReceivesTallied};
 ghost use Rattle.mono_task.specs.Owed.{Keeps, Hands};
 
+use crate::lines::Ticket;
 use crate::mpsc::{Channel, Receiving, Sending};
 pub use crate::tallied_messages::{Recv, Send};
 use mono_task::SharedState;
@@ -105,7 +106,7 @@ impl<T: Drop, S: Tally<T>> Tallied<T, S> {
     }
 
     // Queues a message for a future of this task, or makes the future wait.
-    fn ask_send(&mut self, ticket: Option<u64>, message: T, me: u64) -> Sending<T>
+    fn ask_send(&mut self, ticket: Option<Ticket>, message: T, me: u64) -> Sending<T>
         ensures { SendsTallied S.rule self.old ticket message me result self.new }
     {
         match self.channel.send(ticket, message, me) {
@@ -122,7 +123,7 @@ impl<T: Drop, S: Tally<T>> Tallied<T, S> {
 
     /// Sends a message for a future of this task, or makes the future wait for the task. The ticket is the one that the
     /// future drew before. The value notes the message if it is queued.
-    pub fn send(&mut self, ticket: Option<u64>, message: T, me: u64) -> Sending<T>
+    pub fn send(&mut self, ticket: Option<Ticket>, message: T, me: u64) -> Sending<T>
         ensures answer { Sends self.old.channel ticket message me result self.new.channel }
         ensures leads { TallyLeads S.rule self.old self.new }
         ensures keeps { Keeps tally_lists me self.old self.new }
@@ -131,7 +132,7 @@ impl<T: Drop, S: Tally<T>> Tallied<T, S> {
     }
 
     // Takes the first message for a future of this task, or makes the future wait.
-    fn ask_recv(&mut self, ticket: Option<u64>, me: u64) -> Receiving<T>
+    fn ask_recv(&mut self, ticket: Option<Ticket>, me: u64) -> Receiving<T>
         ensures { ReceivesTallied S.rule self.old ticket me result self.new }
     {
         match self.channel.recv(ticket, me) {
@@ -148,7 +149,7 @@ impl<T: Drop, S: Tally<T>> Tallied<T, S> {
 
     /// Receives a message for a future of this task, or makes the future wait for the task. The ticket is the one that
     /// the future drew before. The value notes the message if there is one.
-    pub fn recv(&mut self, ticket: Option<u64>, me: u64) -> Receiving<T>
+    pub fn recv(&mut self, ticket: Option<Ticket>, me: u64) -> Receiving<T>
         ensures answer { Receives self.old.channel ticket me result self.new.channel }
         ensures leads { TallyLeads S.rule self.old self.new }
         ensures keeps { Keeps tally_lists me self.old self.new }
@@ -158,7 +159,7 @@ impl<T: Drop, S: Tally<T>> Tallied<T, S> {
 
     /// Takes a future out of the line of senders, in a turn of this task. Its reserved place, if any, is owed to the first
     /// task that waits.
-    pub fn give_up_send(&mut self, ticket: Option<u64>, me: u64)
+    pub fn give_up_send(&mut self, ticket: Option<Ticket>, me: u64)
         ensures answer { GivesUpSend self.old.channel ticket me self.new.channel }
         ensures leads { TallyLeads S.rule self.old self.new }
         ensures keeps { Keeps tally_lists me self.old self.new }
@@ -168,7 +169,7 @@ impl<T: Drop, S: Tally<T>> Tallied<T, S> {
 
     /// Takes a future out of the line of receivers, in a turn of this task. Its promised message, if any, is owed to the
     /// first task that waits.
-    pub fn give_up_recv(&mut self, ticket: Option<u64>, me: u64)
+    pub fn give_up_recv(&mut self, ticket: Option<Ticket>, me: u64)
         ensures answer { GivesUpReceive self.old.channel ticket me self.new.channel }
         ensures leads { TallyLeads S.rule self.old self.new }
         ensures keeps { Keeps tally_lists me self.old self.new }

@@ -10,6 +10,7 @@ ghost use Rattle.mono_sync.specs.Spent.{wait_for_spent};
 ghost use Rattle.mono_task.specs.Owed.{Keeps};
 
 use crate::changes::{ChangedError, leave};
+use crate::lines::Ticket;
 use crate::parts::Holds;
 use crate::watch::{Changing, Watch};
 use mono_model::{Host, Poll};
@@ -21,7 +22,7 @@ use std::marker::PhantomData;
 #[derive(Drop)]
 pub struct WaitFor<W, T, F> {
     pub(crate) func: F,
-    pub(crate) ticket: Option<u64>,
+    pub(crate) ticket: Option<Ticket>,
     pub(crate) has_answered: bool,
     shared: PhantomData<W>,
     value: PhantomData<T>,
@@ -47,7 +48,7 @@ pub fn wait_for<W, T, F: Fn(&T) -> bool>(func: F) -> WaitFor<W, T, F>
 fn ask_part<W: Holds<Watch<T>>, T: Drop, F: Fn(&T) -> bool>(
     whole: &mut W,
     func: &F,
-    ticket: Option<u64>,
+    ticket: Option<Ticket>,
     me: u64,
 ) -> Changing
     requires callable { F.IsAlwaysCallable func.now }
@@ -62,7 +63,7 @@ fn ask_part<W: Holds<Watch<T>>, T: Drop, F: Fn(&T) -> bool>(
 fn ask<W: Holds<Watch<T>>, T: Drop, C: SharedContext<W>, F: Fn(&T) -> bool>(
     cx: &mut C,
     func: &F,
-    ticket: Option<u64>,
+    ticket: Option<Ticket>,
 ) -> Changing
     requires callable { F.IsAlwaysCallable func.now }
     ensures answer { WaitsFor (FnReturnsAt F.Fn func.now) (W.part (C.shared cx.old)) ticket (C.number cx.old) result (W.part (C.shared cx.new)) }

@@ -9,7 +9,7 @@ ghost use Rattle.mono_task.specs.Owed.{Keeps};
 
 pub use crate::changes::{Changed, ChangedError, close, send};
 pub use crate::keyed_changes::{ChangedAt, close_at, send_at};
-use crate::lines::{Coming, Line, Waiter};
+use crate::lines::{Coming, Line, Ticket, Waiter};
 pub use crate::waiting::{WaitFor, wait_for};
 use mono_task::SharedState;
 use std::alloc::Global;
@@ -36,7 +36,7 @@ pub enum Changing {
     /// The allocation of a place in the line failed.
     Memory,
     /// The future waits from now on, with this ticket.
-    Joined(u64),
+    Joined(Ticket),
     /// The future still waits.
     Waits,
 }
@@ -127,7 +127,7 @@ impl<T: Drop> Watch<T> {
     }
 
     // Answers a future of this task that has seen a version, or makes it wait.
-    fn ask(&mut self, seen: u64, ticket: Option<u64>, me: u64) -> Changing
+    fn ask(&mut self, seen: u64, ticket: Option<Ticket>, me: u64) -> Changing
         ensures { Changes self.old seen ticket me result self.new }
     {
         if self.version != seen {
@@ -150,7 +150,7 @@ impl<T: Drop> Watch<T> {
 
     /// Answers a future of this task that has seen a version, or makes it wait. The ticket is the one that the future
     /// drew before.
-    pub fn changed(&mut self, seen: u64, ticket: Option<u64>, me: u64) -> Changing
+    pub fn changed(&mut self, seen: u64, ticket: Option<Ticket>, me: u64) -> Changing
         ensures answer { Changes self.old seen ticket me result self.new }
         ensures keeps { Keeps listed_by me self.old self.new }
     {
@@ -158,7 +158,7 @@ impl<T: Drop> Watch<T> {
     }
 
     /// Takes a future out of the line, in a turn of this task.
-    pub fn give_up(&mut self, ticket: Option<u64>, me: u64)
+    pub fn give_up(&mut self, ticket: Option<Ticket>, me: u64)
         ensures answer { GivesUp self.old ticket me self.new }
         ensures keeps { Keeps listed_by me self.old self.new }
     {
