@@ -1,10 +1,12 @@
 // A bounded channel: each test is a table of calls with the answers that they must have.
+use crate::tickets::{comes_at, drawn_at};
+use mono_sync::Ticket;
 use mono_sync::mpsc::{Channel, Receiving, Sending, TryRecvError, TrySendError};
 use mono_task::SharedState;
 use std::alloc::Global;
 use std::process::Abort;
 
-/// One call, with its answer.
+/// One call, with its answer. A ticket stands for its place among those that were drawn in its line.
 #[derive(Clone, Copy)]
 enum Call {
     /// A message is sent at once, and this task is woken, if any.
@@ -20,23 +22,23 @@ enum Call {
     /// There will be no more messages.
     IsOver,
     /// A task's future with this ticket sends a message, and the last task is woken, if any.
-    Puts(Option<u64>, u64, u64, Option<u64>),
+    Puts(Option<usize>, u64, u64, Option<u64>),
     /// It waits from now on, with the last ticket.
-    JoinsSenders(Option<u64>, u64, u64, u64),
+    JoinsSenders(Option<usize>, u64, u64, usize),
     /// It finds the channel closed.
-    GetsBack(Option<u64>, u64, u64),
+    GetsBack(Option<usize>, u64, u64),
     /// A task's future with this ticket receives this message, and the last task is woken, if any.
-    Gets(Option<u64>, u64, u64, Option<u64>),
+    Gets(Option<usize>, u64, u64, Option<u64>),
     /// It waits from now on, with the last ticket.
-    JoinsReceivers(Option<u64>, u64, u64),
+    JoinsReceivers(Option<usize>, u64, usize),
     /// It still waits.
-    Waits(Option<u64>, u64),
+    Waits(Option<usize>, u64),
     /// It finds the channel closed, and no message left.
-    Ends(Option<u64>, u64),
+    Ends(Option<usize>, u64),
     /// A task's future leaves the line of senders, and the last task is woken, if any.
-    LeavesSenders(Option<u64>, u64, Option<u64>),
+    LeavesSenders(Option<usize>, u64, Option<u64>),
     /// A task's future leaves the line of receivers, and the last task is woken, if any.
-    LeavesReceivers(Option<u64>, u64, Option<u64>),
+    LeavesReceivers(Option<usize>, u64, Option<u64>),
     /// It is closed: the first two tasks that are woken.
     Closes(Option<u64>, Option<u64>),
     /// This task is woken next, if any.
@@ -76,48 +78,88 @@ fn answers_at_once(channel: &mut Channel<u64>, call: Call) -> bool {
     }
 }
 
-/// Makes one call, and returns whether it has this answer.
-fn answers(channel: &mut Channel<u64>, call: Call) -> bool {
+/// The tickets that were drawn in each of the two lines.
+#[derive(Drop)]
+struct Drawn {
+    senders: Vec<Ticket>,
+    receivers: Vec<Ticket>,
+}
+
+/// Makes one call of a sender's future, and returns whether it has this answer.
+fn answers_sender(channel: &mut Channel<u64>, tickets: &mut Vec<Ticket>, call: Call) -> bool {
     match call {
-        Call::Puts(ticket, message, by, woken) => match channel.send(ticket, message, by) {
-            Sending::Sent => channel.next_owed() == woken,
-            _ => false,
-        },
-        Call::JoinsSenders(ticket, message, by, drawn) => match channel.send(ticket, message, by) {
-            Sending::Joined(had, back) => had == drawn && back == message,
-            _ => false,
-        },
-        Call::GetsBack(ticket, message, by) => match channel.send(ticket, message, by) {
-            Sending::Closed(back) => back == message,
-            _ => false,
-        },
-        Call::Gets(ticket, message, by, woken) => match channel.recv(ticket, by) {
-            Receiving::Received(had) => had == message && channel.next_owed() == woken,
-            _ => false,
-        },
-        Call::JoinsReceivers(ticket, by, drawn) => match channel.recv(ticket, by) {
-            Receiving::Joined(had) => had == drawn,
-            _ => false,
-        },
-        Call::Waits(ticket, by) => matches!(channel.recv(ticket, by), Receiving::Waits),
-        Call::Ends(ticket, by) => matches!(channel.recv(ticket, by), Receiving::Closed),
-        Call::LeavesSenders(ticket, by, woken) => {
-            channel.give_up_send(ticket, by);
-            channel.next_owed() == woken
+        Call::Puts(ticket, message, by, woken) => {
+            let ticket = drawn_at(tickets, ticket);
+            match channel.send(ticket, message, by) {
+                Sending::Sent => channel.next_owed() == woken,
+                _ => false,
+            }
         }
-        Call::LeavesReceivers(ticket, by, woken) => {
-            channel.give_up_recv(ticket, by);
+        Call::JoinsSenders(ticket, message, by, place) => {
+            let ticket = drawn_at(tickets, ticket);
+            match channel.send(ticket, message, by) {
+                Sending::Joined(had, back) => back == message && comes_at(tickets, had, place),
+                _ => false,
+            }
+        }
+        Call::GetsBack(ticket, message, by) => {
+            let ticket = drawn_at(tickets, ticket);
+            match channel.send(ticket, message, by) {
+                Sending::Closed(back) => back == message,
+                _ => false,
+            }
+        }
+        Call::LeavesSenders(ticket, by, woken) => {
+            channel.give_up_send(drawn_at(tickets, ticket), by);
             channel.next_owed() == woken
         }
         other => answers_at_once(channel, other),
     }
 }
 
+/// Makes one call, and returns whether it has this answer.
+fn answers(channel: &mut Channel<u64>, drawn: &mut Drawn, call: Call) -> bool {
+    let tickets = &mut drawn.receivers;
+    match call {
+        Call::Gets(ticket, message, by, woken) => {
+            let ticket = drawn_at(tickets, ticket);
+            match channel.recv(ticket, by) {
+                Receiving::Received(had) => had == message && channel.next_owed() == woken,
+                _ => false,
+            }
+        }
+        Call::JoinsReceivers(ticket, by, place) => {
+            let ticket = drawn_at(tickets, ticket);
+            match channel.recv(ticket, by) {
+                Receiving::Joined(had) => comes_at(tickets, had, place),
+                _ => false,
+            }
+        }
+        Call::Waits(ticket, by) => {
+            let ticket = drawn_at(tickets, ticket);
+            matches!(channel.recv(ticket, by), Receiving::Waits)
+        }
+        Call::Ends(ticket, by) => {
+            let ticket = drawn_at(tickets, ticket);
+            matches!(channel.recv(ticket, by), Receiving::Closed)
+        }
+        Call::LeavesReceivers(ticket, by, woken) => {
+            channel.give_up_recv(drawn_at(tickets, ticket), by);
+            channel.next_owed() == woken
+        }
+        other => answers_sender(channel, &mut drawn.senders, other),
+    }
+}
+
 /// Makes the calls in turn on a channel of this many places, and asserts their answers.
 fn all_answer<R: Abort>(rt: &R, alloc: Global, bound: usize, calls: &[Call]) {
     let mut channel = Channel::new(alloc, bound);
+    let mut drawn = Drawn {
+        senders: Vec::new(alloc),
+        receivers: Vec::new(alloc),
+    };
     for call in calls {
-        assert!(rt; answers(&mut channel, *call));
+        assert!(rt; answers(&mut channel, &mut drawn, *call));
     }
 }
 

@@ -1,16 +1,17 @@
 // A notice to one that stays with its future, whether its task was woken or not.
-use mono_sync::{Notify, Notifying};
+use crate::tickets::number_of;
+use mono_sync::{Notify, Notifying, Ticket};
 use mono_task::SharedState;
 
 // Returns the ticket of a future of this task that waits from now on.
-fn drawn(notify: &mut Notify, by: u64) -> Option<u64> {
+fn drawn(notify: &mut Notify, by: u64) -> Option<Ticket> {
     match notify.notified(None, by) {
         Notifying::Joined(ticket) => Some(ticket),
         _ => None,
     }
 }
 
-fn has(notify: &mut Notify, ticket: Option<u64>, by: u64) -> bool {
+fn has(notify: &mut Notify, ticket: Option<Ticket>, by: u64) -> bool {
     matches!(notify.notified(ticket, by), Notifying::Notified)
 }
 
@@ -33,7 +34,7 @@ fn a_notice_outlives_a_notice_to_all_of_its_turn(rt: HostRuntime) {
     notify.give_up(one, 1);
     assert_eq!(rt; notify.next_owed(), Some(3));
     assert!(rt; has(&mut notify, three, 3));
-    assert_eq!(rt; drawn(&mut notify, 4), Some(3));
+    assert_eq!(rt; number_of(drawn(&mut notify, 4)), Some(3));
 }
 
 // The first future is given up before its task is woken. The notice is kept, since the second task is woken by the notice to
@@ -50,7 +51,7 @@ fn a_notice_is_passed_on_before_the_wake(rt: HostRuntime) {
     assert_eq!(rt; notify.next_owed(), None);
     assert!(rt; has(&mut notify, two, 2));
     assert!(rt; has(&mut notify, None, 3));
-    assert_eq!(rt; drawn(&mut notify, 4), Some(2));
+    assert_eq!(rt; number_of(drawn(&mut notify, 4)), Some(2));
 }
 
 // Two futures have a notice each, and the third has none. A notice to all changes nothing about whose notice is passed on.
@@ -87,7 +88,7 @@ fn one_is_kept_beside_a_notice(rt: HostRuntime) {
     notify.notify_one();
     assert_eq!(rt; (notify.next_owed(), notify.next_owed()), (Some(1), None));
     assert!(rt; has(&mut notify, one, 1) && has(&mut notify, None, 2));
-    assert_eq!(rt; drawn(&mut notify, 3), Some(1));
+    assert_eq!(rt; number_of(drawn(&mut notify, 3)), Some(1));
 }
 
 // A kept notice stays when a notice to all comes in the turn of the one before it.
@@ -100,5 +101,5 @@ fn a_kept_notice_stays(rt: HostRuntime) {
     notify.notify_waiters();
     assert_eq!(rt; (notify.next_owed(), notify.next_owed()), (Some(1), None));
     assert!(rt; has(&mut notify, one, 1) && has(&mut notify, None, 2));
-    assert_eq!(rt; drawn(&mut notify, 3), Some(1));
+    assert_eq!(rt; number_of(drawn(&mut notify, 3)), Some(1));
 }

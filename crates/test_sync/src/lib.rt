@@ -23,6 +23,8 @@ mod several;
 #[cfg(test)]
 mod tallies;
 #[cfg(test)]
+mod tickets;
+#[cfg(test)]
 mod turns;
 #[cfg(test)]
 mod watches;

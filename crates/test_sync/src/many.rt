@@ -24,7 +24,7 @@ fn many_tasks_wait_for_a_permit(rt: HostRuntime) {
     let mut waits = true;
     for task in 0..MANY {
         waits = waits
-            & matches!(semaphore.acquire(None, task), Acquiring::Joined(had) if had == task);
+            & matches!(semaphore.acquire(None, task), Acquiring::Joined(had) if had.number() == task);
     }
     assert!(rt; waits);
     semaphore.close();
@@ -37,7 +37,7 @@ fn many_tasks_wait_for_a_notice(rt: HostRuntime) {
     let mut waits = true;
     for task in 0..MANY {
         waits = waits
-            & matches!(notify.notified(None, task), Notifying::Joined(had) if had == task);
+            & matches!(notify.notified(None, task), Notifying::Joined(had) if had.number() == task);
     }
     assert!(rt; waits);
     notify.notify_waiters();
@@ -50,7 +50,7 @@ fn many_tasks_wait_for_a_value(rt: HostRuntime) {
     let mut waits = true;
     for task in 0..MANY {
         waits = waits
-            & matches!(watch.changed(0, None, task), Changing::Joined(had) if had == task);
+            & matches!(watch.changed(0, None, task), Changing::Joined(had) if had.number() == task);
     }
     assert!(rt; waits);
     watch.close();
@@ -62,7 +62,8 @@ fn many_tasks_wait_for_a_message(rt: HostRuntime) {
     let mut channel: Channel<u64> = Channel::new(rt.alloc(), 4);
     let mut waits = true;
     for task in 0..MANY {
-        waits = waits & matches!(channel.recv(None, task), Receiving::Joined(had) if had == task);
+        waits = waits
+            & matches!(channel.recv(None, task), Receiving::Joined(had) if had.number() == task);
     }
     assert!(rt; waits);
     channel.close();
@@ -75,7 +76,7 @@ fn many_tasks_wait_to_send(rt: HostRuntime) {
     let mut waits = true;
     for task in 0..MANY {
         let answer = channel.send(None, 10, task);
-        waits = waits & matches!(answer, Sending::Joined(had, 10) if had == task);
+        waits = waits & matches!(answer, Sending::Joined(had, 10) if had.number() == task);
     }
     assert!(rt; waits);
     channel.close();

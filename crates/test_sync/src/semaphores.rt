@@ -1,10 +1,11 @@
 // A semaphore: each test is a table of calls with the answers that they must have.
-use mono_sync::{Acquiring, MAX_PERMITS, Semaphore, TryAcquireError};
+use crate::tickets::{comes_at, drawn_at};
+use mono_sync::{Acquiring, MAX_PERMITS, Semaphore, Ticket, TryAcquireError};
 use mono_task::SharedState;
 use std::alloc::Global;
 use std::process::Abort;
 
-/// One call, with its answer.
+/// One call, with its answer. A ticket stands for its place among those that were drawn.
 #[derive(Clone, Copy)]
 enum Call {
     /// A permit is taken at once.
@@ -14,17 +15,17 @@ enum Call {
     /// It was closed.
     IsShut,
     /// A task's future with this ticket asks: it has a permit.
-    Acquires(Option<u64>, u64),
+    Acquires(Option<usize>, u64),
     /// It waits from now on, with the second ticket.
-    Joins(Option<u64>, u64, u64),
+    Joins(Option<usize>, u64, usize),
     /// It still waits.
-    Waits(Option<u64>, u64),
+    Waits(Option<usize>, u64),
     /// It finds the semaphore closed.
-    Finds(Option<u64>, u64),
+    Finds(Option<usize>, u64),
     /// A permit is released, and this task is the first to be woken, if any.
     Releases(Option<u64>),
     /// A task's future leaves the line, and the last task is the first to be woken, if any.
-    Leaves(Option<u64>, u64, Option<u64>),
+    Leaves(Option<usize>, u64, Option<u64>),
     /// It is closed, and these two tasks are woken.
     Closes(u64, u64),
     /// This task is woken next, if any.
@@ -33,24 +34,43 @@ enum Call {
     Has(usize),
 }
 
-/// Makes one call, and returns whether it has this answer.
-fn answers(semaphore: &mut Semaphore, call: Call) -> bool {
+/// Makes one call of a task's future, and returns whether it has this answer.
+fn answers(semaphore: &mut Semaphore, tickets: &mut Vec<Ticket>, call: Call) -> bool {
+    match call {
+        Call::Acquires(ticket, by) => {
+            let ticket = drawn_at(tickets, ticket);
+            matches!(semaphore.acquire(ticket, by), Acquiring::Acquired)
+        }
+        Call::Joins(ticket, by, place) => {
+            let ticket = drawn_at(tickets, ticket);
+            match semaphore.acquire(ticket, by) {
+                Acquiring::Joined(had) => comes_at(tickets, had, place),
+                _ => false,
+            }
+        }
+        Call::Waits(ticket, by) => {
+            let ticket = drawn_at(tickets, ticket);
+            matches!(semaphore.acquire(ticket, by), Acquiring::Waits)
+        }
+        Call::Finds(ticket, by) => {
+            let ticket = drawn_at(tickets, ticket);
+            matches!(semaphore.acquire(ticket, by), Acquiring::Closed)
+        }
+        Call::Leaves(ticket, by, woken) => {
+            semaphore.give_up(drawn_at(tickets, ticket), by);
+            semaphore.next_owed() == woken
+        }
+        other => answers_at_once(semaphore, other),
+    }
+}
+
+/// Makes one call that does not wait, and returns whether it has this answer.
+fn answers_at_once(semaphore: &mut Semaphore, call: Call) -> bool {
     match call {
         Call::Takes => semaphore.try_acquire().is_ok(),
         Call::HasNone => matches!(semaphore.try_acquire(), Err(TryAcquireError::NoPermits)),
         Call::IsShut => matches!(semaphore.try_acquire(), Err(TryAcquireError::Closed)),
-        Call::Acquires(ticket, by) => matches!(semaphore.acquire(ticket, by), Acquiring::Acquired),
-        Call::Joins(ticket, by, drawn) => match semaphore.acquire(ticket, by) {
-            Acquiring::Joined(had) => had == drawn,
-            _ => false,
-        },
-        Call::Waits(ticket, by) => matches!(semaphore.acquire(ticket, by), Acquiring::Waits),
-        Call::Finds(ticket, by) => matches!(semaphore.acquire(ticket, by), Acquiring::Closed),
         Call::Releases(woken) => semaphore.release().is_ok() && semaphore.next_owed() == woken,
-        Call::Leaves(ticket, by, woken) => {
-            semaphore.give_up(ticket, by);
-            semaphore.next_owed() == woken
-        }
         Call::Closes(one, other) => {
             semaphore.close();
             let first = semaphore.next_owed();
@@ -59,14 +79,16 @@ fn answers(semaphore: &mut Semaphore, call: Call) -> bool {
         }
         Call::Wakes(woken) => semaphore.next_owed() == woken,
         Call::Has(permits) => semaphore.available_permits() == permits,
+        _ => false,
     }
 }
 
 /// Makes the calls in turn on a semaphore with this many permits, and asserts their answers.
 fn all_answer<R: Abort>(rt: &R, alloc: Global, permits: usize, calls: &[Call]) {
     let mut semaphore = Semaphore::new(alloc, permits);
+    let mut tickets = Vec::new(alloc);
     for call in calls {
-        assert!(rt; answers(&mut semaphore, *call));
+        assert!(rt; answers(&mut semaphore, &mut tickets, *call));
     }
 }
 
@@ -173,12 +195,13 @@ fn latest_task(rt: HostRuntime) {
 #[test]
 fn owed_before_the_wake(rt: HostRuntime) {
     let mut semaphore = Semaphore::new(rt.alloc(), 0);
-    assert!(rt; answers(&mut semaphore, Call::Joins(None, 1, 0)));
+    let mut tickets = Vec::new(rt.alloc());
+    assert!(rt; answers(&mut semaphore, &mut tickets, Call::Joins(None, 1, 0)));
     assert!(rt; semaphore.release().is_ok());
-    assert!(rt; answers(&mut semaphore, Call::HasNone));
-    assert!(rt; answers(&mut semaphore, Call::Has(0)));
-    assert!(rt; answers(&mut semaphore, Call::Joins(None, 2, 1)));
-    assert!(rt; answers(&mut semaphore, Call::Wakes(Some(1))));
-    assert!(rt; answers(&mut semaphore, Call::Wakes(None)));
-    assert!(rt; answers(&mut semaphore, Call::Acquires(Some(0), 1)));
+    assert!(rt; answers(&mut semaphore, &mut tickets, Call::HasNone));
+    assert!(rt; answers(&mut semaphore, &mut tickets, Call::Has(0)));
+    assert!(rt; answers(&mut semaphore, &mut tickets, Call::Joins(None, 2, 1)));
+    assert!(rt; answers(&mut semaphore, &mut tickets, Call::Wakes(Some(1))));
+    assert!(rt; answers(&mut semaphore, &mut tickets, Call::Wakes(None)));
+    assert!(rt; answers(&mut semaphore, &mut tickets, Call::Acquires(Some(0), 1)));
 }

@@ -1,9 +1,18 @@
 // Calls that take several permits or messages at once, and calls that change a watched value in place.
+use crate::tickets::number_of;
 use crate::turns::Turn;
 use mono_sync::mpsc::{Channel, Receiving};
 use mono_sync::watch::{self, Changing, WaitFor, Watch};
-use mono_sync::{Acquiring, MAX_PERMITS, Many, Only, Semaphore, TryAcquireError, acts};
+use mono_sync::{Acquiring, MAX_PERMITS, Many, Only, Semaphore, Ticket, TryAcquireError, acts};
 use mono_task::SharedState;
+
+// Returns the ticket of a future of this task that waits from now on.
+fn drawn(semaphore: &mut Semaphore, by: u64) -> Option<Ticket> {
+    match semaphore.acquire(None, by) {
+        Acquiring::Joined(ticket) => Some(ticket),
+        _ => None,
+    }
+}
 
 /// Permits that are added at once are owed to the tasks that have waited longest, one each.
 ///
@@ -11,9 +20,13 @@ use mono_task::SharedState;
 #[test]
 fn permits(rt: HostRuntime) {
     let mut semaphore = Semaphore::new(rt.alloc(), 0);
-    assert!(rt; matches!(semaphore.acquire(None, 1), Acquiring::Joined(0)));
-    assert!(rt; matches!(semaphore.acquire(None, 2), Acquiring::Joined(1)));
-    assert!(rt; matches!(semaphore.acquire(None, 3), Acquiring::Joined(2)));
+    let one = drawn(&mut semaphore, 1);
+    let two = drawn(&mut semaphore, 2);
+    let three = drawn(&mut semaphore, 3);
+    assert_eq!(rt;
+        (number_of(one), number_of(two), number_of(three)),
+        (Some(0), Some(1), Some(2))
+    );
     assert!(rt; semaphore.add_permits(2).is_ok());
     assert_eq!(rt;
         (semaphore.next_owed(), semaphore.next_owed()),
@@ -42,7 +55,7 @@ fn permits(rt: HostRuntime) {
         (1, 0)
     );
     assert!(rt; semaphore.try_acquire_many(0).is_ok());
-    assert!(rt; matches!(semaphore.acquire(Some(0), 1), Acquiring::Acquired));
+    assert!(rt; matches!(semaphore.acquire(one, 1), Acquiring::Acquired));
     assert_eq!(rt; semaphore.next_owed(), Some(3));
     assert!(rt; semaphore.add_permits(1).is_ok());
     semaphore.close();
@@ -63,7 +76,7 @@ fn messages(rt: HostRuntime) {
         ),
         (true, 5, 5)
     );
-    assert!(rt; matches!(channel.recv(None, 1), Receiving::Joined(0)));
+    assert!(rt; matches!(channel.recv(None, 1), Receiving::Joined(ticket) if ticket.number() == 0));
     for number in 10..14u64 {
         assert!(rt; channel.try_send(number).is_ok());
     }
@@ -103,7 +116,9 @@ fn unbounded(rt: HostRuntime) {
 fn changes_in_place(rt: HostRuntime) {
     let mut watch = Watch::new(rt.alloc(), 10u64);
     let mut seen = 0;
-    assert!(rt; matches!(watch.changed(seen, None, 1), Changing::Joined(0)));
+    assert!(rt;
+        matches!(watch.changed(seen, None, 1), Changing::Joined(ticket) if ticket.number() == 0)
+    );
     assert!(rt;
         matches!(
             watch.send_if_modified(|value: &mut u64| {
@@ -132,7 +147,9 @@ fn changes_in_place(rt: HostRuntime) {
     );
     assert_eq!(rt; *watch.borrow_and_update(&mut seen), 12);
     assert_eq!(rt; (seen, watch.has_changed(seen)), (1, false));
-    assert!(rt; matches!(watch.changed(seen, None, 2), Changing::Joined(1)));
+    assert!(rt;
+        matches!(watch.changed(seen, None, 2), Changing::Joined(ticket) if ticket.number() == 1)
+    );
     assert!(rt;
         matches!(
             watch.send_modify(|value: &mut u64| {

@@ -16,7 +16,8 @@ fn puts<W: Holds<Many<X>>, X: SharedState + Drop>(whole: &mut W, alloc: Global, 
 // Puts a channel into its table, the first one, in which this task waits and has a message.
 fn puts_channel(alloc: Global, shared: &mut Shared, task: u64) -> bool {
     let mut channel: Channel<u64> = Channel::new(alloc, 1);
-    let waits = matches!(channel.recv(None, task), Receiving::Joined(0));
+    let waits =
+        matches!(channel.recv(None, task), Receiving::Joined(ticket) if ticket.number() == 0);
     let sent = channel.try_send(20).is_ok();
     waits & sent & puts::<Shared, Channel<u64>>(shared, alloc, channel)
 }
@@ -24,7 +25,8 @@ fn puts_channel(alloc: Global, shared: &mut Shared, task: u64) -> bool {
 // Puts a notice into its table, the last one, for which this task waits and which was given.
 fn puts_notice(alloc: Global, shared: &mut Shared, task: u64) -> bool {
     let mut notify = Notify::new(alloc);
-    let waits = matches!(notify.notified(None, task), Notifying::Joined(0));
+    let waits =
+        matches!(notify.notified(None, task), Notifying::Joined(ticket) if ticket.number() == 0);
     notify.notify_one();
     waits & puts::<Shared, Notify>(shared, alloc, notify)
 }
