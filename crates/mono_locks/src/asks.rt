@@ -6,7 +6,7 @@ ghost use Rattle.mono_locks.specs.declared.queues.Asked.{Asked};
 ghost use Rattle.mono_locks.specs.Polls.{AskPolls, AskGives, AskCancels, ask_spent};
 ghost use Rattle.mono_task.specs.Owed.{Keeps};
 
-use crate::queues::Asked;
+use crate::queues::{Asked, Ticket};
 use mono_forms::FutureExt;
 use mono_model::{Host, Poll};
 use mono_task::{SharedContext, SharedState, TaskFuture};
@@ -28,13 +28,13 @@ pub trait Ask<W: SharedState>: Drop {
     ghost leaves: { Self → Option ℕ → ℕ → W → W → Type 0 };
 
     /// Asks for a future of this task, or makes it wait. The ticket is the one that the future drew before.
-    fn ask(&self, shared: &mut W, ticket: Option<u64>, me: u64) -> Asked<Self::Gets>
+    fn ask(&self, shared: &mut W, ticket: Option<Ticket>, me: u64) -> Asked<Self::Gets>
         ensures asked { asks self.now ticket me shared.old result shared.new }
         ensures leads { W.leads shared.old shared.new }
         ensures keeps { Keeps W.lists me shared.old shared.new };
 
     /// Takes a future out of the queue, in a turn of this task.
-    fn leave(&self, shared: &mut W, ticket: Option<u64>, me: u64)
+    fn leave(&self, shared: &mut W, ticket: Option<Ticket>, me: u64)
         ensures left { leaves self.now ticket me shared.old shared.new }
         ensures leads { W.leads shared.old shared.new }
         ensures keeps { Keeps W.lists me shared.old shared.new };
@@ -44,7 +44,7 @@ pub trait Ask<W: SharedState>: Drop {
 #[derive(Drop)]
 pub struct Asking<W, K> {
     pub(crate) call: K,
-    pub(crate) ticket: Option<u64>,
+    pub(crate) ticket: Option<Ticket>,
     pub(crate) has_answered: bool,
     shared: PhantomData<W>,
 }
@@ -67,7 +67,7 @@ pub fn ask_for<W, K>(call: K) -> Asking<W, K>
 fn ask_in<W: SharedState, C: SharedContext<W>, K: Ask<W>>(
     cx: &mut C,
     call: &K,
-    ticket: Option<u64>,
+    ticket: Option<Ticket>,
 ) -> Asked<K::Gets>
     ensures asked { K.asks call.now ticket (C.number cx.old) (C.shared cx.old) result (C.shared cx.new) }
     ensures work { C.work cx.new ≡ C.work cx.old }
@@ -81,7 +81,7 @@ fn ask_in<W: SharedState, C: SharedContext<W>, K: Ask<W>>(
 fn leave_in<W: SharedState, C: SharedContext<W>, K: Ask<W>>(
     cx: &mut C,
     call: &K,
-    ticket: Option<u64>,
+    ticket: Option<Ticket>,
 )
     ensures left { K.leaves call.now ticket (C.number cx.old) (C.shared cx.old) (C.shared cx.new) }
     ensures work { C.work cx.new ≡ C.work cx.old }

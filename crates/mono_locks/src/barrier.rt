@@ -8,7 +8,7 @@ ghost use Rattle.mono_locks.specs.Queues.{has_task};
 ghost use Rattle.mono_task.specs.Owed.{Keeps};
 
 pub use crate::barrier_calls::{WaitCall, WaitFuture, wait};
-use crate::queues::{Asked, Entry, Queue};
+use crate::queues::{Asked, Entry, Queue, Ticket};
 use mono_task::SharedState;
 use std::alloc::Global;
 use std::cmp::max;
@@ -118,10 +118,10 @@ impl Barrier {
     }
 
     // Lets a future go on if the barrier opened since it came, or makes it wait.
-    fn stay(&mut self, ticket: u64, me: u64) -> Asked<BarrierWaitResult>
+    fn stay(&mut self, ticket: Ticket, me: u64) -> Asked<BarrierWaitResult>
         ensures { Stays self.old ticket me result self.new }
     {
-        if ticket < self.cleared {
+        if ticket.number() < self.cleared {
             self.queue.leave(Some(ticket), me, 1);
             return Asked::Got(BarrierWaitResult { is_leader: false });
         }
@@ -137,7 +137,7 @@ impl Barrier {
     }
 
     // Answers a future of this task, or makes it wait.
-    fn ask(&mut self, ticket: Option<u64>, me: u64) -> Asked<BarrierWaitResult>
+    fn ask(&mut self, ticket: Option<Ticket>, me: u64) -> Asked<BarrierWaitResult>
         ensures { Arrives self.old ticket me result self.new }
     {
         match ticket {
@@ -148,7 +148,7 @@ impl Barrier {
 
     /// Answers a future of this task, or makes it wait. The ticket is the one that the future drew before. A future without
     /// one comes now, and opens the barrier if it is the last that is missing.
-    pub fn wait(&mut self, ticket: Option<u64>, me: u64) -> Asked<BarrierWaitResult>
+    pub fn wait(&mut self, ticket: Option<Ticket>, me: u64) -> Asked<BarrierWaitResult>
         ensures answer { Arrives self.old ticket me result self.new }
         ensures keeps { Keeps listed_by me self.old self.new }
     {
@@ -156,11 +156,11 @@ impl Barrier {
     }
 
     // Takes a future out of the queue. It counts no more, unless the barrier opened since it came.
-    fn leave(&mut self, ticket: Option<u64>, me: u64)
+    fn leave(&mut self, ticket: Option<Ticket>, me: u64)
         ensures { GivesUp self.old ticket me self.new }
     {
         if let Some(drawn) = ticket {
-            if drawn >= self.cleared {
+            if drawn.number() >= self.cleared {
                 self.arrived = self.arrived.saturating_sub(1);
             }
         }
@@ -169,7 +169,7 @@ impl Barrier {
 
     /// Takes a future out of the queue, in a turn of this task. It does not count any more, unless the barrier opened since
     /// it came.
-    pub fn give_up(&mut self, ticket: Option<u64>, me: u64)
+    pub fn give_up(&mut self, ticket: Option<Ticket>, me: u64)
         ensures answer { GivesUp self.old ticket me self.new }
         ensures keeps { Keeps listed_by me self.old self.new }
     {

@@ -4,7 +4,7 @@ ghost use Rattle.mono_locks.specs.Barriers.{Arrives, GivesUp};
 
 use crate::asks::{Ask, Asking, ask_for};
 use crate::barrier::{Barrier, BarrierWaitResult};
-use crate::queues::Asked;
+use crate::queues::{Asked, Ticket};
 use mono_sync::Holds;
 
 /// A call of [`wait`].
@@ -28,11 +28,11 @@ impl<W: Holds<Barrier>> Ask<W> for WaitCall {
 
     ghost leaves = { λ k ticket me w v. GivesUp (W.part w) ticket me (W.part v) };
 
-    fn ask(&self, shared: &mut W, ticket: Option<u64>, me: u64) -> Asked<BarrierWaitResult> {
+    fn ask(&self, shared: &mut W, ticket: Option<Ticket>, me: u64) -> Asked<BarrierWaitResult> {
         shared.part_mut().wait(ticket, me)
     }
 
-    fn leave(&self, shared: &mut W, ticket: Option<u64>, me: u64) {
+    fn leave(&self, shared: &mut W, ticket: Option<Ticket>, me: u64) {
         shared.part_mut().give_up(ticket, me)
     }
 }

@@ -8,7 +8,7 @@ ghost use Rattle.mono_locks.specs.Queues.{has_task};
 ghost use Rattle.mono_task.specs.Owed.{Keeps};
 
 pub use crate::broadcast_calls::{RecvCall, RecvFuture, close, recv, send};
-use crate::queues::{Asked, Entry, Queue};
+use crate::queues::{Asked, Entry, Queue, Ticket};
 use mono_task::SharedState;
 use std::alloc::Global;
 use std::cmp::max;
@@ -215,7 +215,7 @@ impl<T: Copy + Drop> Broadcast<T> {
     }
 
     // Answers a receiver's future of this task, or makes it wait.
-    fn ask(&mut self, next: u64, ticket: Option<u64>, me: u64) -> Asked<Received<T>>
+    fn ask(&mut self, next: u64, ticket: Option<Ticket>, me: u64) -> Asked<Received<T>>
         ensures { Receives self.old next ticket me result self.new }
     {
         match self.look(next) {
@@ -233,7 +233,12 @@ impl<T: Copy + Drop> Broadcast<T> {
     }
 
     /// Answers a receiver's future of this task, or makes it wait. The ticket is the one that the future drew before.
-    pub fn recv(&mut self, receiver: Receiver, ticket: Option<u64>, me: u64) -> Asked<Received<T>>
+    pub fn recv(
+        &mut self,
+        receiver: Receiver,
+        ticket: Option<Ticket>,
+        me: u64,
+    ) -> Asked<Received<T>>
         ensures answer { Receives self.old receiver.next ticket me result self.new }
         ensures keeps { Keeps listed_by me self.old self.new }
     {
@@ -249,7 +254,7 @@ impl<T: Copy + Drop> Broadcast<T> {
     }
 
     /// Takes a future out of the queue, in a turn of this task.
-    pub fn give_up(&mut self, ticket: Option<u64>, me: u64)
+    pub fn give_up(&mut self, ticket: Option<Ticket>, me: u64)
         ensures answer { GivesUp self.old ticket me self.new }
         ensures keeps { Keeps listed_by me self.old self.new }
     {

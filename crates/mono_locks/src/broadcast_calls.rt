@@ -5,7 +5,7 @@ ghost use Rattle.mono_task.specs.Owed.{Keeps};
 
 use crate::asks::{Ask, Asking, ask_for};
 use crate::broadcast::{Broadcast, Received, Receiver, SendError};
-use crate::queues::Asked;
+use crate::queues::{Asked, Ticket};
 use mono_sync::Holds;
 use mono_task::SharedContext;
 use std::marker::PhantomData;
@@ -41,11 +41,11 @@ impl<W: Holds<Broadcast<T>>, T: Copy + Drop> Ask<W> for RecvCall<T> {
 
     ghost leaves = { λ k ticket me w v. GivesUp (W.part w) ticket me (W.part v) };
 
-    fn ask(&self, shared: &mut W, ticket: Option<u64>, me: u64) -> Asked<Received<T>> {
+    fn ask(&self, shared: &mut W, ticket: Option<Ticket>, me: u64) -> Asked<Received<T>> {
         shared.part_mut().recv(self.receiver, ticket, me)
     }
 
-    fn leave(&self, shared: &mut W, ticket: Option<u64>, me: u64) {
+    fn leave(&self, shared: &mut W, ticket: Option<Ticket>, me: u64) {
         shared.part_mut().give_up(ticket, me)
     }
 }

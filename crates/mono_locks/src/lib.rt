@@ -17,4 +17,4 @@ mod rw_calls;
 pub mod rwlock;
 
 pub use asks::{Ask, Asking, ask_for};
-pub use queues::Asked;
+pub use queues::{Asked, Ticket};

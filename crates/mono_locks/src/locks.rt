@@ -5,7 +5,7 @@ ghost use Rattle.mono_task.specs.Owed.{Keeps};
 
 use crate::asks::{Ask, Asking, ask_for};
 use crate::mutex::{Mutex, MutexGuard, TryLockError};
-use crate::queues::Asked;
+use crate::queues::{Asked, Ticket};
 use mono_sync::Holds;
 use mono_task::SharedContext;
 use std::marker::PhantomData;
@@ -33,11 +33,11 @@ impl<W: Holds<Mutex<T>>, T: Drop> Ask<W> for LockCall<T> {
 
     ghost leaves = { λ k ticket me w v. GivesUp (W.part w) ticket me (W.part v) };
 
-    fn ask(&self, shared: &mut W, ticket: Option<u64>, me: u64) -> Asked<MutexGuard<T>> {
+    fn ask(&self, shared: &mut W, ticket: Option<Ticket>, me: u64) -> Asked<MutexGuard<T>> {
         shared.part_mut().lock(ticket, me)
     }
 
-    fn leave(&self, shared: &mut W, ticket: Option<u64>, me: u64) {
+    fn leave(&self, shared: &mut W, ticket: Option<Ticket>, me: u64) {
         shared.part_mut().give_up(ticket, me)
     }
 }

@@ -10,7 +10,7 @@ ghost use Rattle.mono_locks.specs.Listed.{mutex_some};
 ghost use Rattle.mono_task.specs.Owed.{Keeps};
 
 pub use crate::locks::{LockCall, LockFuture, lock, try_lock, unlock};
-use crate::queues::{Asked, Entry, Queue};
+use crate::queues::{Asked, Entry, Queue, Ticket};
 use mono_task::SharedState;
 use std::alloc::Global;
 use std::mem;
@@ -162,7 +162,7 @@ impl<T: Drop> Mutex<T> {
     }
 
     // Locks for a future of this task, or makes it wait.
-    fn ask(&mut self, ticket: Option<u64>, me: u64) -> Asked<MutexGuard<T>>
+    fn ask(&mut self, ticket: Option<Ticket>, me: u64) -> Asked<MutexGuard<T>>
         ensures { Locks self.old ticket me result self.new }
     {
         let room = self.room();
@@ -180,7 +180,7 @@ impl<T: Drop> Mutex<T> {
     }
 
     /// Locks for a future of this task, or makes the future wait. The ticket is the one that the future drew before.
-    pub fn lock(&mut self, ticket: Option<u64>, me: u64) -> Asked<MutexGuard<T>>
+    pub fn lock(&mut self, ticket: Option<Ticket>, me: u64) -> Asked<MutexGuard<T>>
         ensures answer { Locks self.old ticket me result self.new }
         ensures keeps { Keeps listed_by me self.old self.new }
     {
@@ -203,7 +203,7 @@ impl<T: Drop> Mutex<T> {
 
     /// Takes a future out of the queue, in a turn of this task. The mutex, if it was reserved for the future, is owed to the
     /// first task that waits.
-    pub fn give_up(&mut self, ticket: Option<u64>, me: u64)
+    pub fn give_up(&mut self, ticket: Option<Ticket>, me: u64)
         ensures answer { GivesUp self.old ticket me self.new }
         ensures keeps { Keeps listed_by me self.old self.new }
     {

@@ -5,7 +5,7 @@ ghost use Rattle.mono_task.specs.Owed.{Keeps};
 
 use crate::asks::{Ask, Asking, ask_for};
 use crate::once_cell::{Init, InitTurn, OnceCell, SetError};
-use crate::queues::Asked;
+use crate::queues::{Asked, Ticket};
 use mono_sync::Holds;
 use mono_task::SharedContext;
 use std::marker::PhantomData;
@@ -34,11 +34,11 @@ impl<W: Holds<OnceCell<T>>, T: Drop> Ask<W> for InitCall<T> {
 
     ghost leaves = { λ k ticket me w v. GivesUp (W.part w) ticket me (W.part v) };
 
-    fn ask(&self, shared: &mut W, ticket: Option<u64>, me: u64) -> Asked<Init<T>> {
+    fn ask(&self, shared: &mut W, ticket: Option<Ticket>, me: u64) -> Asked<Init<T>> {
         shared.part_mut().get_or_init(ticket, me)
     }
 
-    fn leave(&self, shared: &mut W, ticket: Option<u64>, me: u64) {
+    fn leave(&self, shared: &mut W, ticket: Option<Ticket>, me: u64) {
         shared.part_mut().give_up(ticket, me)
     }
 }

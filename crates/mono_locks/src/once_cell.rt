@@ -11,7 +11,7 @@ ghost use Rattle.mono_locks.specs.Queues.{has_task, Asks, IfGot};
 ghost use Rattle.mono_task.specs.Owed.{Keeps};
 
 pub use crate::once_calls::{InitCall, InitFuture, finish, get_or_init, give_back, set};
-use crate::queues::{Asked, Entry, Queue};
+use crate::queues::{Asked, Entry, Queue, Ticket};
 use mono_task::SharedState;
 use std::alloc::Global;
 use std::marker::PhantomData;
@@ -174,7 +174,7 @@ impl<T: Drop> OnceCell<T> {
     }
 
     // Gives the turn to a future of this task, or makes it wait.
-    fn ask_turn(&mut self, ticket: Option<u64>, me: u64) -> Asked<Init<T>>
+    fn ask_turn(&mut self, ticket: Option<Ticket>, me: u64) -> Asked<Init<T>>
         ensures asks { Asks self.old.queue ticket me 1 (room_of self.old.is_initializing) result self.new.queue }
         ensures turn { IfGot result (λ i. TakesTurn i self.old self.new) (self.new.is_initializing ≡ self.old.is_initializing) }
         ensures value { self.new.value ≡ self.old.value }
@@ -192,7 +192,7 @@ impl<T: Drop> OnceCell<T> {
     }
 
     // Answers a future of this task, or makes it wait.
-    fn ask(&mut self, ticket: Option<u64>, me: u64) -> Asked<Init<T>>
+    fn ask(&mut self, ticket: Option<Ticket>, me: u64) -> Asked<Init<T>>
         ensures { Inits self.old ticket me result self.new }
     {
         if self.value.is_some() {
@@ -204,7 +204,7 @@ impl<T: Drop> OnceCell<T> {
 
     /// Answers a future of this task, or makes it wait: the cell was set, or the task has the turn to make the value. The
     /// ticket is the one that the future drew before.
-    pub fn get_or_init(&mut self, ticket: Option<u64>, me: u64) -> Asked<Init<T>>
+    pub fn get_or_init(&mut self, ticket: Option<Ticket>, me: u64) -> Asked<Init<T>>
         ensures answer { Inits self.old ticket me result self.new }
         ensures keeps { Keeps listed_by me self.old self.new }
     {
@@ -239,7 +239,7 @@ impl<T: Drop> OnceCell<T> {
 
     /// Takes a future out of the queue, in a turn of this task. The turn, if it was reserved for the future, is owed to the
     /// first task that waits.
-    pub fn give_up(&mut self, ticket: Option<u64>, me: u64)
+    pub fn give_up(&mut self, ticket: Option<Ticket>, me: u64)
         ensures answer { GivesUp self.old ticket me self.new }
         ensures keeps { Keeps listed_by me self.old self.new }
     {

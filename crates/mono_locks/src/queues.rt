@@ -5,6 +5,33 @@ ghost use Rattle.mono_locks.specs.Queues.{holder_of, place_of, has_room, starts_
 
 use std::alloc::{AllocError, Global};
 use std::collections::VecDeque;
+use std::marker::Model;
+
+/// The ticket that a future drew at a queue. Only a queue makes one.
+#[derive(Debug, Clone, Copy)]
+pub struct Ticket {
+    number: u64,
+}
+
+/// In clauses a ticket is its number.
+impl Model for Ticket {
+    ghost use Rattle.std.specs.Prelude.{ℕ};
+
+    ghost Value = { ℕ };
+
+    ghost view = { λ a. a.number };
+
+    ghost inverse = { λ n. record { number = n } };
+}
+
+impl Ticket {
+    /// Returns the number of the ticket. A queue counts its tickets from 0.
+    pub fn number(self) -> u64
+        ensures { result ≡ self }
+    {
+        self.number
+    }
+}
 
 /// A waiting task, with the ticket that its future drew and the amount that it asks for.
 #[derive(Clone, Copy)]
@@ -48,7 +75,7 @@ pub enum Asked<G> {
     /// The allocation of a place in the queue failed.
     Memory,
     /// The future waits from now on, with this ticket.
-    Joined(u64),
+    Joined(Ticket),
     /// The future still waits.
     Waits,
 }
@@ -75,10 +102,10 @@ impl Queue {
     }
 
     // Returns the task that waits with this ticket.
-    pub(crate) fn holder_of(&self, ticket: u64) -> Option<u64>
+    pub(crate) fn holder_of(&self, ticket: Ticket) -> Option<u64>
         ensures { result ≡ holder_of self.now.waiters.items ticket }
     {
-        match self.place_of(ticket) {
+        match self.place_of(ticket.number()) {
             None => None,
             Some(place) => Some(self.waiters[place].task),
         }
@@ -119,7 +146,7 @@ impl Queue {
     // its amount. One that waits for another task has left its place: that task is woken in its turn.
     pub(crate) fn come(
         &mut self,
-        ticket: Option<u64>,
+        ticket: Option<Ticket>,
         me: u64,
         amount: usize,
         room: usize,
@@ -137,7 +164,7 @@ impl Queue {
                     if task == me {
                         return Coming::Waits;
                     }
-                    self.mark(ticket, task);
+                    self.mark(ticket.number(), task);
                     Queue::answer(self.has_room(amount, room))
                 }
             },
@@ -145,7 +172,7 @@ impl Queue {
     }
 
     // Appends a task to the queue, and returns its ticket. Refused if out of memory, or if no ticket is left.
-    pub(crate) fn join(&mut self, task: u64, amount: usize) -> Result<u64, AllocError>
+    pub(crate) fn join(&mut self, task: u64, amount: usize) -> Result<Ticket, AllocError>
         ensures { Joins self.old task amount result self.new }
     {
         let ticket = self.next;
@@ -159,7 +186,7 @@ impl Queue {
         }) {
             Ok(()) => {
                 self.next = next;
-                Ok(ticket)
+                Ok(Ticket { number: ticket })
             }
             Err(_) => Err(AllocError),
         }
@@ -168,7 +195,7 @@ impl Queue {
     // Answers a future of this task that asks for an amount, or makes it wait.
     pub(crate) fn ask(
         &mut self,
-        ticket: Option<u64>,
+        ticket: Option<Ticket>,
         me: u64,
         amount: usize,
         room: usize,
@@ -188,19 +215,20 @@ impl Queue {
 
     // Takes a future out of the queue, in a turn of this task. If it was served, its amount is free again. If it waits for
     // another task, that task is woken in its turn.
-    pub(crate) fn leave(&mut self, ticket: Option<u64>, me: u64, amount: usize)
+    pub(crate) fn leave(&mut self, ticket: Option<Ticket>, me: u64, amount: usize)
         ensures { Leaves self.old ticket me amount self.new }
     {
         if let Some(ticket) = ticket {
             match self.holder_of(ticket) {
                 None => self.granted = self.granted.saturating_sub(amount),
                 Some(task) => {
+                    let number = ticket.number();
                     if task == me {
                         self.waiters
-                            .retain(|w| !(w.ticket == ticket && w.task == me));
+                            .retain(|w| !(w.ticket == number && w.task == me));
                         return;
                     }
-                    self.mark(ticket, task);
+                    self.mark(number, task);
                 }
             }
         }

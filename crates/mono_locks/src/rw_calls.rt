@@ -6,7 +6,7 @@ ghost use Rattle.mono_task.specs.Owed.{Keeps};
 
 use crate::asks::{Ask, Asking, ask_for};
 use crate::mutex::TryLockError;
-use crate::queues::Asked;
+use crate::queues::{Asked, Ticket};
 use crate::rwlock::{RwLock, RwLockReadGuard, RwLockWriteGuard};
 use mono_sync::Holds;
 use mono_task::SharedContext;
@@ -51,11 +51,11 @@ impl<W: Holds<RwLock<T>>, T: Drop> Ask<W> for ReadCall<T> {
 
     ghost leaves = { λ k ticket me w v. GivesUp (W.part w) ticket me 1 (W.part v) };
 
-    fn ask(&self, shared: &mut W, ticket: Option<u64>, me: u64) -> Asked<RwLockReadGuard<T>> {
+    fn ask(&self, shared: &mut W, ticket: Option<Ticket>, me: u64) -> Asked<RwLockReadGuard<T>> {
         shared.part_mut().read(ticket, me)
     }
 
-    fn leave(&self, shared: &mut W, ticket: Option<u64>, me: u64) {
+    fn leave(&self, shared: &mut W, ticket: Option<Ticket>, me: u64) {
         shared.part_mut().give_up_read(ticket, me)
     }
 }
@@ -67,11 +67,11 @@ impl<W: Holds<RwLock<T>>, T: Drop> Ask<W> for WriteCall<T> {
 
     ghost leaves = { λ k ticket me w v. GivesUp (W.part w) ticket me MAX_READS (W.part v) };
 
-    fn ask(&self, shared: &mut W, ticket: Option<u64>, me: u64) -> Asked<RwLockWriteGuard<T>> {
+    fn ask(&self, shared: &mut W, ticket: Option<Ticket>, me: u64) -> Asked<RwLockWriteGuard<T>> {
         shared.part_mut().write(ticket, me)
     }
 
-    fn leave(&self, shared: &mut W, ticket: Option<u64>, me: u64) {
+    fn leave(&self, shared: &mut W, ticket: Option<Ticket>, me: u64) {
         shared.part_mut().give_up_write(ticket, me)
     }
 }

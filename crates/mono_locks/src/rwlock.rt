@@ -12,7 +12,7 @@ ghost use Rattle.mono_locks.specs.RwLocks.{room_of, owed_by, listed_by, waiting_
 ghost use Rattle.mono_task.specs.Owed.{Keeps};
 
 use crate::mutex::TryLockError;
-use crate::queues::{Asked, Entry, Queue};
+use crate::queues::{Asked, Entry, Queue, Ticket};
 pub use crate::rw_calls::{
     ReadCall, ReadFuture, WriteCall, WriteFuture, end_read, end_write, read, try_read, try_write,
     write,
@@ -203,7 +203,7 @@ impl<T: Drop> RwLock<T> {
     }
 
     // Takes a read guard for a future of this task, or makes it wait.
-    fn ask_read(&mut self, ticket: Option<u64>, me: u64) -> Asked<RwLockReadGuard<T>>
+    fn ask_read(&mut self, ticket: Option<Ticket>, me: u64) -> Asked<RwLockReadGuard<T>>
         ensures { Reads self.old ticket me result self.new }
     {
         let room = self.room();
@@ -219,7 +219,7 @@ impl<T: Drop> RwLock<T> {
     }
 
     // Takes the write guard for a future of this task, or makes it wait.
-    fn ask_write(&mut self, ticket: Option<u64>, me: u64) -> Asked<RwLockWriteGuard<T>>
+    fn ask_write(&mut self, ticket: Option<Ticket>, me: u64) -> Asked<RwLockWriteGuard<T>>
         ensures { Writes self.old ticket me result self.new }
     {
         let room = self.room();
@@ -238,7 +238,7 @@ impl<T: Drop> RwLock<T> {
 
     /// Takes a read guard for a future of this task, or makes the future wait. The ticket is the one that the future drew
     /// before.
-    pub fn read(&mut self, ticket: Option<u64>, me: u64) -> Asked<RwLockReadGuard<T>>
+    pub fn read(&mut self, ticket: Option<Ticket>, me: u64) -> Asked<RwLockReadGuard<T>>
         ensures answer { Reads self.old ticket me result self.new }
         ensures keeps { Keeps listed_by me self.old self.new }
     {
@@ -247,7 +247,7 @@ impl<T: Drop> RwLock<T> {
 
     /// Takes the write guard for a future of this task, or makes the future wait. The ticket is the one that the future
     /// drew before.
-    pub fn write(&mut self, ticket: Option<u64>, me: u64) -> Asked<RwLockWriteGuard<T>>
+    pub fn write(&mut self, ticket: Option<Ticket>, me: u64) -> Asked<RwLockWriteGuard<T>>
         ensures answer { Writes self.old ticket me result self.new }
         ensures keeps { Keeps listed_by me self.old self.new }
     {
@@ -283,7 +283,7 @@ impl<T: Drop> RwLock<T> {
     }
 
     /// Takes a reading future out of the queue, in a turn of this task. What was reserved for it is free again.
-    pub fn give_up_read(&mut self, ticket: Option<u64>, me: u64)
+    pub fn give_up_read(&mut self, ticket: Option<Ticket>, me: u64)
         ensures answer { GivesUp self.old ticket me 1 self.new }
         ensures keeps { Keeps listed_by me self.old self.new }
     {
@@ -291,7 +291,7 @@ impl<T: Drop> RwLock<T> {
     }
 
     /// Takes a writing future out of the queue, in a turn of this task. What was reserved for it is free again.
-    pub fn give_up_write(&mut self, ticket: Option<u64>, me: u64)
+    pub fn give_up_write(&mut self, ticket: Option<Ticket>, me: u64)
         ensures answer { GivesUp self.old ticket me MAX_READS self.new }
         ensures keeps { Keeps listed_by me self.old self.new }
     {
