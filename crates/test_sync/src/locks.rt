@@ -6,6 +6,7 @@ mod cells;
 mod memory;
 mod mutexes;
 mod rw_locks;
+mod tickets;
 
 use mono_locks::Asked;
 use mono_locks::barrier::Barrier;
@@ -22,7 +23,8 @@ fn many_tasks_wait_for_a_mutex(rt: HostRuntime) {
     let mut mutex: Mutex<u64> = Mutex::new(rt.alloc(), 10);
     let mut waits = mutex.try_lock().is_ok();
     for task in 0..MANY {
-        waits = waits & matches!(mutex.lock(None, task), Asked::Joined(had) if had == task);
+        waits = waits
+            & matches!(mutex.lock(None, task), Asked::Joined(had) if had.number() == task);
     }
     assert!(rt; waits);
 }
@@ -44,7 +46,8 @@ fn many_tasks_wait_for_a_cell(rt: HostRuntime) {
     let mut cell: OnceCell<u64> = OnceCell::new(rt.alloc());
     let mut waits = matches!(cell.get_or_init(None, 0), Asked::Got(_));
     for task in 0..MANY {
-        waits = waits & matches!(cell.get_or_init(None, task), Asked::Joined(had) if had == task);
+        waits = waits
+            & matches!(cell.get_or_init(None, task), Asked::Joined(had) if had.number() == task);
     }
     assert!(rt; waits);
 }
@@ -66,7 +69,7 @@ fn many_tasks_wait_for_a_broadcast(rt: HostRuntime) {
     let mut waits = true;
     for task in 0..MANY {
         waits = waits
-            & matches!(channel.recv(receiver, None, task), Asked::Joined(had) if had == task);
+            & matches!(channel.recv(receiver, None, task), Asked::Joined(had) if had.number() == task);
     }
     assert!(rt; waits & channel.send(7).is_ok());
 }

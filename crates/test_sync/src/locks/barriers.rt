@@ -1,4 +1,5 @@
 // A barrier.
+use crate::locks::tickets::{drawn, number_of};
 use mono_locks::Asked;
 use mono_locks::barrier::{Barrier, BarrierWaitResult};
 use mono_task::SharedState;
@@ -17,18 +18,20 @@ fn goes_on(answer: Asked<BarrierWaitResult>, is_leader: bool) -> bool {
 #[test]
 fn opens_for_all(rt: HostRuntime) {
     let mut barrier = Barrier::new(rt.alloc(), 3);
-    assert!(rt; matches!(barrier.wait(None, 1), Asked::Joined(0)));
-    assert!(rt; matches!(barrier.wait(None, 2), Asked::Joined(1)));
-    assert!(rt; matches!(barrier.wait(Some(0), 1), Asked::Waits));
+    let one = drawn(barrier.wait(None, 1));
+    let two = drawn(barrier.wait(None, 2));
+    assert_eq!(rt; (number_of(one), number_of(two)), (Some(0), Some(1)));
+    assert!(rt; matches!(barrier.wait(one, 1), Asked::Waits));
     assert!(rt; barrier.next_owed().is_none());
     assert!(rt; goes_on(barrier.wait(None, 3), true));
-    assert!(rt; matches!(barrier.wait(None, 4), Asked::Joined(2)));
+    let later = drawn(barrier.wait(None, 4));
+    assert_eq!(rt; number_of(later), Some(2));
     assert!(rt; barrier.next_owed() == Some(1));
     assert!(rt; barrier.next_owed() == Some(2));
     assert!(rt; barrier.next_owed().is_none());
-    assert!(rt; goes_on(barrier.wait(Some(0), 1), false));
-    assert!(rt; goes_on(barrier.wait(Some(1), 2), false));
-    assert!(rt; matches!(barrier.wait(Some(2), 4), Asked::Waits));
+    assert!(rt; goes_on(barrier.wait(one, 1), false));
+    assert!(rt; goes_on(barrier.wait(two, 2), false));
+    assert!(rt; matches!(barrier.wait(later, 4), Asked::Waits));
     assert_eq!(rt; barrier.arrived(), 1);
 }
 
@@ -38,14 +41,16 @@ fn opens_for_all(rt: HostRuntime) {
 #[test]
 fn given_up_and_moved(rt: HostRuntime) {
     let mut barrier = Barrier::new(rt.alloc(), 2);
-    assert!(rt; matches!(barrier.wait(None, 1), Asked::Joined(0)));
-    barrier.give_up(Some(0), 1);
+    let given_up = drawn(barrier.wait(None, 1));
+    assert_eq!(rt; number_of(given_up), Some(0));
+    barrier.give_up(given_up, 1);
     assert_eq!(rt; barrier.arrived(), 0);
-    assert!(rt; matches!(barrier.wait(None, 2), Asked::Joined(1)));
-    assert!(rt; matches!(barrier.wait(Some(1), 3), Asked::Joined(2)));
+    let first = drawn(barrier.wait(None, 2));
+    let moved = drawn(barrier.wait(first, 3));
+    assert_eq!(rt; (number_of(first), number_of(moved)), (Some(1), Some(2)));
     assert_eq!(rt; barrier.arrived(), 1);
     assert!(rt; goes_on(barrier.wait(None, 4), true));
-    assert!(rt; goes_on(barrier.wait(Some(2), 3), false));
+    assert!(rt; goes_on(barrier.wait(moved, 3), false));
 }
 
 /// A barrier for nobody lets each one through.

@@ -1,4 +1,5 @@
 // A broadcast.
+use crate::locks::tickets::{drawn, number_of};
 use mono_locks::Asked;
 use mono_locks::broadcast::{Broadcast, Received, Receiver, RecvError};
 use mono_task::SharedState;
@@ -70,23 +71,25 @@ fn lags(rt: HostRuntime) {
 fn all_are_woken(rt: HostRuntime) {
     let mut channel: Broadcast<u64> = Broadcast::new(rt.alloc(), 2);
     let receiver = channel.subscribe();
-    assert!(rt; matches!(channel.recv(receiver, None, 1), Asked::Joined(0)));
-    assert!(rt; matches!(channel.recv(receiver, None, 2), Asked::Joined(1)));
+    let one = drawn(channel.recv(receiver, None, 1));
+    let two = drawn(channel.recv(receiver, None, 2));
+    assert_eq!(rt; (number_of(one), number_of(two)), (Some(0), Some(1)));
     assert!(rt; channel.next_owed().is_none());
     assert!(rt; channel.send(7).is_ok());
     assert!(rt; channel.next_owed() == Some(1));
     assert!(rt; channel.next_owed() == Some(2));
     let mut next = receiver;
-    let came = match channel.recv(receiver, Some(0), 1) {
+    let came = match channel.recv(receiver, one, 1) {
         Asked::Got(received) => Some(received),
         _ => None,
     };
     assert_eq!(rt; message_of(came, &mut next), 7);
-    assert!(rt; matches!(channel.recv(next, None, 1), Asked::Joined(2)));
+    let one = drawn(channel.recv(next, None, 1));
+    assert_eq!(rt; number_of(one), Some(2));
     channel.close();
     assert!(rt; channel.next_owed() == Some(1));
     assert!(rt; channel.send(8).is_err());
-    match channel.recv(next, Some(2), 1) {
+    match channel.recv(next, one, 1) {
         Asked::Got(received) => assert!(rt; matches!(received.message, Err(RecvError::Closed))),
         _ => assert!(rt; false),
     }

@@ -1,6 +1,7 @@
 // A cell that is set once.
-use mono_locks::Asked;
+use crate::locks::tickets::{drawn, number_of};
 use mono_locks::once_cell::{Init, InitTurn, OnceCell, SetError};
+use mono_locks::{Asked, Ticket};
 use mono_task::SharedState;
 use std::process::Abort;
 
@@ -8,7 +9,7 @@ use std::process::Abort;
 fn turn_of<R: Abort>(
     rt: &R,
     cell: &mut OnceCell<u64>,
-    ticket: Option<u64>,
+    ticket: Option<Ticket>,
     by: u64,
 ) -> InitTurn<u64> {
     match cell.get_or_init(ticket, by) {
@@ -25,17 +26,18 @@ fn next_takes_over(rt: HostRuntime) {
     let mut cell: OnceCell<u64> = OnceCell::new(rt.alloc());
     let first = turn_of(&rt, &mut cell, None, 1);
     assert!(rt; cell.is_initializing());
-    assert!(rt; matches!(cell.get_or_init(None, 2), Asked::Joined(0)));
-    assert!(rt; matches!(cell.get_or_init(None, 3), Asked::Joined(1)));
+    let two = drawn(cell.get_or_init(None, 2));
+    let three = drawn(cell.get_or_init(None, 3));
+    assert_eq!(rt; (number_of(two), number_of(three)), (Some(0), Some(1)));
     assert!(rt; cell.next_owed().is_none());
     assert!(rt; matches!(cell.set(5), Err(SetError::Initializing(5))));
     cell.give_back(first);
     assert!(rt; cell.next_owed() == Some(2));
     assert!(rt; matches!(cell.set(5), Err(SetError::Initializing(5))));
-    let second = turn_of(&rt, &mut cell, Some(0), 2);
+    let second = turn_of(&rt, &mut cell, two, 2);
     assert!(rt; cell.finish(second, 7).is_ok());
     assert!(rt; cell.next_owed() == Some(3));
-    assert!(rt; matches!(cell.get_or_init(Some(1), 3), Asked::Got(Init::Set)));
+    assert!(rt; matches!(cell.get_or_init(three, 3), Asked::Got(Init::Set)));
     assert!(rt; matches!(cell.get_or_init(None, 4), Asked::Got(Init::Set)));
     assert!(rt; matches!(cell.set(8), Err(SetError::AlreadyInitialized(8))));
     assert!(rt; matches!(cell.get(), Some(7)));

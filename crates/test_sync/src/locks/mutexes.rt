@@ -1,11 +1,11 @@
 // A mutex: each test is a table of calls with the answers that they must have.
-use mono_locks::Asked;
 use mono_locks::mutex::{Mutex, MutexGuard};
+use mono_locks::{Asked, Ticket};
 use mono_task::SharedState;
 use std::alloc::Global;
 use std::process::Abort;
 
-/// One call, with its answer.
+/// One call, with its answer. A ticket stands for its place among those that were drawn.
 #[derive(Clone, Copy)]
 enum Call {
     /// The mutex is locked at once, and its value was this.
@@ -13,24 +13,25 @@ enum Call {
     /// It can't be locked at once.
     IsTaken,
     /// A task's future with this ticket asks: it has the value, which was the last number.
-    Gets(Option<u64>, u64, u64),
+    Gets(Option<usize>, u64, u64),
     /// It waits from now on, with the second ticket.
-    Joins(Option<u64>, u64, u64),
+    Joins(Option<usize>, u64, usize),
     /// It still waits.
-    Waits(Option<u64>, u64),
+    Waits(Option<usize>, u64),
     /// The guard is put back with one more, and this task is the first to be woken, if any.
     Unlocks(Option<u64>),
     /// A task's future leaves the queue, and the last task is the first to be woken, if any.
-    Leaves(Option<u64>, u64, Option<u64>),
+    Leaves(Option<usize>, u64, Option<u64>),
     /// This task is woken next, if any.
     Wakes(Option<u64>),
 }
 
-/// A mutex, and the guard that is out.
+/// A mutex, the guard that is out, and the tickets that were drawn.
 #[derive(Drop)]
 struct Bench {
     mutex: Mutex<u64>,
     guard: Option<MutexGuard<u64>>,
+    tickets: Vec<Ticket>,
 }
 
 /// Keeps a guard, and returns whether its value is this and none was out.
@@ -52,6 +53,20 @@ fn unlocks(bench: &mut Bench) -> bool {
     }
 }
 
+/// Returns the ticket at this place, if any.
+fn drawn_at(bench: &Bench, place: Option<usize>) -> Option<Ticket> {
+    match place {
+        None => None,
+        Some(place) => bench.tickets.get(place).copied(),
+    }
+}
+
+/// Appends a ticket. Returns whether its number is its place, and the place is this one.
+fn comes_at(bench: &mut Bench, ticket: Ticket, place: usize) -> bool {
+    let is_next = bench.tickets.len() == place && ticket.number() == place as u64;
+    is_next && bench.tickets.push(ticket).is_ok()
+}
+
 /// Makes one call, and returns whether it has this answer.
 fn answers(bench: &mut Bench, call: Call) -> bool {
     match call {
@@ -60,17 +75,27 @@ fn answers(bench: &mut Bench, call: Call) -> bool {
             Err(_) => false,
         },
         Call::IsTaken => bench.mutex.try_lock().is_err(),
-        Call::Gets(ticket, by, value) => match bench.mutex.lock(ticket, by) {
-            Asked::Got(guard) => holds(bench, guard, value),
-            _ => false,
-        },
-        Call::Joins(ticket, by, drawn) => match bench.mutex.lock(ticket, by) {
-            Asked::Joined(had) => had == drawn,
-            _ => false,
-        },
-        Call::Waits(ticket, by) => matches!(bench.mutex.lock(ticket, by), Asked::Waits),
+        Call::Gets(ticket, by, value) => {
+            let ticket = drawn_at(bench, ticket);
+            match bench.mutex.lock(ticket, by) {
+                Asked::Got(guard) => holds(bench, guard, value),
+                _ => false,
+            }
+        }
+        Call::Joins(ticket, by, place) => {
+            let ticket = drawn_at(bench, ticket);
+            match bench.mutex.lock(ticket, by) {
+                Asked::Joined(had) => comes_at(bench, had, place),
+                _ => false,
+            }
+        }
+        Call::Waits(ticket, by) => {
+            let ticket = drawn_at(bench, ticket);
+            matches!(bench.mutex.lock(ticket, by), Asked::Waits)
+        }
         Call::Unlocks(woken) => unlocks(bench) && bench.mutex.next_owed() == woken,
         Call::Leaves(ticket, by, woken) => {
+            let ticket = drawn_at(bench, ticket);
             bench.mutex.give_up(ticket, by);
             bench.mutex.next_owed() == woken
         }
@@ -83,6 +108,7 @@ fn all_answer<R: Abort>(rt: &R, alloc: Global, calls: &[Call]) {
     let mut bench = Bench {
         mutex: Mutex::new(alloc, 10),
         guard: None,
+        tickets: Vec::new(alloc),
     };
     for call in calls {
         assert!(rt; answers(&mut bench, *call));

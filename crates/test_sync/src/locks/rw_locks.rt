@@ -1,4 +1,5 @@
 // A lock for readers and writers.
+use crate::locks::tickets::{drawn, number_of};
 use mono_locks::Asked;
 use mono_locks::rwlock::{RwLock, RwLockReadGuard, RwLockWriteGuard};
 use mono_task::SharedState;
@@ -12,16 +13,6 @@ fn got<R: Abort, G: Drop>(rt: &R, answer: Asked<G>) -> G {
     }
 }
 
-// Returns whether a reading future of this task waits from now on, with this ticket.
-fn reads_later(lock: &mut RwLock<u64>, by: u64, ticket: u64) -> bool {
-    matches!(lock.read(None, by), Asked::Joined(had) if had == ticket)
-}
-
-// Returns whether a writing future of this task waits from now on, with this ticket.
-fn writes_later(lock: &mut RwLock<u64>, by: u64, ticket: u64) -> bool {
-    matches!(lock.write(None, by), Asked::Joined(had) if had == ticket)
-}
-
 /// Many read at once. A writer waits for all of them, and no later reader overtakes it.
 ///
 /// It catches a definition by which a writer has room beside a reader, or a reader overtakes a writer.
@@ -31,16 +22,19 @@ fn a_writer_is_not_overtaken(rt: HostRuntime) {
     let one = lock.try_read().ok().expect(&rt, "one reads");
     let other = got(&rt, lock.read(None, 1));
     assert_eq!(rt; (lock.readers(), lock.is_written()), (2, false));
-    assert!(rt; lock.try_write().is_err() && writes_later(&mut lock, 2, 0));
-    assert!(rt; lock.try_read().is_err() && reads_later(&mut lock, 3, 1));
+    assert!(rt; lock.try_write().is_err());
+    let writer = drawn(lock.write(None, 2));
+    assert!(rt; lock.try_read().is_err());
+    let reader = drawn(lock.read(None, 3));
+    assert_eq!(rt; (number_of(writer), number_of(reader)), (Some(0), Some(1)));
     assert!(rt; lock.end_read(one).is_ok() && lock.next_owed().is_none());
     assert!(rt; lock.end_read(other).is_ok() && lock.next_owed() == Some(2));
     assert!(rt; lock.try_read().is_err() && lock.next_owed().is_none());
-    let mut written = got(&rt, lock.write(Some(0), 2));
+    let mut written = got(&rt, lock.write(writer, 2));
     assert!(rt; lock.is_written() && lock.get().is_none());
     *written.get_mut() = 11;
     assert!(rt; lock.end_write(written).is_ok() && lock.next_owed() == Some(3));
-    let last = got(&rt, lock.read(Some(1), 3));
+    let last = got(&rt, lock.read(reader, 3));
     assert!(rt; matches!(lock.get(), Some(11)));
     assert!(rt; lock.end_read(last).is_ok() && lock.waiting() == 0);
     assert!(rt; matches!(lock.into_inner(), Some(11)));
@@ -53,16 +47,20 @@ fn a_writer_is_not_overtaken(rt: HostRuntime) {
 fn a_writer_is_given_up(rt: HostRuntime) {
     let mut lock = RwLock::new(rt.alloc(), 10u64);
     let one = got(&rt, lock.read(None, 0));
-    assert!(rt; writes_later(&mut lock, 1, 0) && reads_later(&mut lock, 2, 1));
-    lock.give_up_write(Some(0), 1);
+    let writer = drawn(lock.write(None, 1));
+    let reader = drawn(lock.read(None, 2));
+    assert_eq!(rt; (number_of(writer), number_of(reader)), (Some(0), Some(1)));
+    lock.give_up_write(writer, 1);
     assert!(rt; lock.next_owed() == Some(2));
-    let two = got(&rt, lock.read(Some(1), 2));
-    assert!(rt; writes_later(&mut lock, 3, 2) && reads_later(&mut lock, 4, 3));
+    let two = got(&rt, lock.read(reader, 2));
+    let writer = drawn(lock.write(None, 3));
+    let reader = drawn(lock.read(None, 4));
+    assert_eq!(rt; (number_of(writer), number_of(reader)), (Some(2), Some(3)));
     assert!(rt; lock.end_read(one).is_ok() && lock.end_read(two).is_ok());
     assert!(rt; lock.next_owed() == Some(3));
-    lock.give_up_write(Some(2), 3);
+    lock.give_up_write(writer, 3);
     assert!(rt; lock.next_owed() == Some(4));
-    lock.give_up_read(Some(3), 4);
+    lock.give_up_read(reader, 4);
     assert!(rt; lock.next_owed().is_none() && lock.try_write().is_ok());
 }
 
