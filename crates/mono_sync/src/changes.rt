@@ -7,7 +7,7 @@ ghost use Rattle.mono_sync.specs.Changes.{ChangedPolls, ChangedGives, ChangedCan
 ghost use Rattle.mono_sync.specs.Spent.{changed_spent};
 ghost use Rattle.mono_task.specs.Owed.{Keeps};
 
-use crate::lines::Ticket;
+use crate::lines::{Ticket, ticket_of};
 use crate::parts::Holds;
 use crate::watch::{Changing, Watch};
 use mono_model::{Host, Poll};
@@ -19,7 +19,8 @@ use std::marker::PhantomData;
 #[derive(Drop)]
 pub struct Changed<W, T> {
     pub(crate) seen: u64,
-    pub(crate) ticket: Option<Ticket>,
+    // The number of the ticket that the future drew.
+    pub(crate) ticket: Option<u64>,
     pub(crate) has_answered: bool,
     shared: PhantomData<W>,
     value: PhantomData<T>,
@@ -96,27 +97,27 @@ pub(crate) fn close_part<W: Holds<Watch<T>>, T: Drop>(whole: &mut W)
 fn ask<W: Holds<Watch<T>>, T: Drop, C: SharedContext<W>>(
     cx: &mut C,
     seen: u64,
-    ticket: Option<Ticket>,
+    ticket: Option<u64>,
 ) -> Changing
     ensures answer { Changes (W.part (C.shared cx.old)) seen ticket (C.number cx.old) result (W.part (C.shared cx.new)) }
     ensures work { C.work cx.new ≡ C.work cx.old }
     ensures reached { C.reaches cx.old cx.new }
 {
     let me = cx.me();
-    ask_part::<W, T>(cx.shared_mut(), seen, ticket, me)
+    ask_part::<W, T>(cx.shared_mut(), seen, ticket_of(ticket), me)
 }
 
 // Takes the running task's future out of the line.
 pub(crate) fn leave<W: Holds<Watch<T>>, T: Drop, C: SharedContext<W>>(
     cx: &mut C,
-    ticket: Option<Ticket>,
+    ticket: Option<u64>,
 )
     ensures answer { GivesUp (W.part (C.shared cx.old)) ticket (C.number cx.old) (W.part (C.shared cx.new)) }
     ensures work { C.work cx.new ≡ C.work cx.old }
     ensures reached { C.reaches cx.old cx.new }
 {
     let me = cx.me();
-    leave_part::<W, T>(cx.shared_mut(), ticket, me)
+    leave_part::<W, T>(cx.shared_mut(), ticket_of(ticket), me)
 }
 
 /// Replaces the watched value, and returns the value before. The runtime wakes all tasks that wait for another after the
@@ -166,7 +167,7 @@ impl<W: Holds<Watch<T>>, T: Drop, C: SharedContext<W>> TaskFuture<C> for Changed
         match ask::<W, T, C>(cx, self.seen, self.ticket) {
             Changing::Waits => Poll::Pending,
             Changing::Joined(ticket) => {
-                self.ticket = Some(ticket);
+                self.ticket = Some(ticket.number);
                 Poll::Pending
             }
             Changing::Changed(version) => {

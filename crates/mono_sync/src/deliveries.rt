@@ -7,7 +7,7 @@ ghost use Rattle.mono_sync.specs.Deliveries.{RecvPolls, RecvGives, RecvCancels};
 ghost use Rattle.mono_sync.specs.Spent.{oneshot_spent};
 ghost use Rattle.mono_task.specs.Owed.{Keeps};
 
-use crate::lines::Ticket;
+use crate::lines::{Ticket, ticket_of};
 use crate::oneshot::{Oneshot, Receiving};
 use crate::parts::Holds;
 use mono_model::{Host, Poll};
@@ -18,7 +18,8 @@ use std::marker::PhantomData;
 /// A future that receives the one message of the tasks' channel, and waits until it was sent.
 #[derive(Drop)]
 pub struct Recv<W, T> {
-    pub(crate) ticket: Option<Ticket>,
+    // The number of the ticket that the future drew.
+    pub(crate) ticket: Option<u64>,
     pub(crate) has_answered: bool,
     shared: PhantomData<W>,
     message: PhantomData<T>,
@@ -93,24 +94,24 @@ pub(crate) fn close_part<W: Holds<Oneshot<T>>, T: Drop>(whole: &mut W)
 // Asks the channel for the running task's future.
 fn ask<W: Holds<Oneshot<T>>, T: Drop, C: SharedContext<W>>(
     cx: &mut C,
-    ticket: Option<Ticket>,
+    ticket: Option<u64>,
 ) -> Receiving<T>
     ensures answer { Receives (W.part (C.shared cx.old)) ticket (C.number cx.old) result (W.part (C.shared cx.new)) }
     ensures work { C.work cx.new ≡ C.work cx.old }
     ensures reached { C.reaches cx.old cx.new }
 {
     let me = cx.me();
-    ask_part::<W, T>(cx.shared_mut(), ticket, me)
+    ask_part::<W, T>(cx.shared_mut(), ticket_of(ticket), me)
 }
 
 // Takes the running task's future out of the line.
-fn leave<W: Holds<Oneshot<T>>, T: Drop, C: SharedContext<W>>(cx: &mut C, ticket: Option<Ticket>)
+fn leave<W: Holds<Oneshot<T>>, T: Drop, C: SharedContext<W>>(cx: &mut C, ticket: Option<u64>)
     ensures answer { GivesUp (W.part (C.shared cx.old)) ticket (C.number cx.old) (W.part (C.shared cx.new)) }
     ensures work { C.work cx.new ≡ C.work cx.old }
     ensures reached { C.reaches cx.old cx.new }
 {
     let me = cx.me();
-    leave_part::<W, T>(cx.shared_mut(), ticket, me)
+    leave_part::<W, T>(cx.shared_mut(), ticket_of(ticket), me)
 }
 
 /// Sends the message. The runtime wakes the task that waits for it after the turn. The message comes back if one was sent
@@ -156,7 +157,7 @@ impl<W: Holds<Oneshot<T>>, T: Drop, C: SharedContext<W>> TaskFuture<C> for Recv<
         match ask::<W, T, C>(cx, self.ticket) {
             Receiving::Waits => Poll::Pending,
             Receiving::Joined(ticket) => {
-                self.ticket = Some(ticket);
+                self.ticket = Some(ticket.number);
                 Poll::Pending
             }
             Receiving::Received(message) => {

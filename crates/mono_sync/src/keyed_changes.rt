@@ -11,7 +11,7 @@ ghost use Rattle.mono_sync.specs.Spent.{changed_at_spent};
 ghost use Rattle.mono_task.specs.Owed.{Keeps};
 
 use crate::changes::ChangedError;
-use crate::lines::Ticket;
+use crate::lines::{Ticket, ticket_of};
 use crate::parts::Holds;
 use crate::tables::Many;
 use crate::watch::{Changing, Watch};
@@ -25,7 +25,8 @@ use std::marker::PhantomData;
 pub struct ChangedAt<W, T> {
     pub(crate) key: u64,
     pub(crate) seen: u64,
-    pub(crate) ticket: Option<Ticket>,
+    // The number of the ticket that the future drew.
+    pub(crate) ticket: Option<u64>,
     pub(crate) has_answered: bool,
     shared: PhantomData<W>,
     value: PhantomData<T>,
@@ -88,14 +89,14 @@ fn ask<W: Holds<Many<Watch<T>>>, T: Drop, C: SharedContext<W>>(
     cx: &mut C,
     key: u64,
     seen: u64,
-    ticket: Option<Ticket>,
+    ticket: Option<u64>,
 ) -> Changing
     ensures answer { ChangesAt key (W.part (C.shared cx.old)) seen ticket (C.number cx.old) result (W.part (C.shared cx.new)) }
     ensures work { C.work cx.new ≡ C.work cx.old }
     ensures reached { C.reaches cx.old cx.new }
 {
     let me = cx.me();
-    ask_part::<W, T>(cx.shared_mut(), key, seen, ticket, me)
+    ask_part::<W, T>(cx.shared_mut(), key, seen, ticket_of(ticket), me)
 }
 
 // Takes a future out of the line of the watched value with this key.
@@ -128,14 +129,14 @@ fn leave_part<W: Holds<Many<Watch<T>>>, T: Drop>(
 fn leave<W: Holds<Many<Watch<T>>>, T: Drop, C: SharedContext<W>>(
     cx: &mut C,
     key: u64,
-    ticket: Option<Ticket>,
+    ticket: Option<u64>,
 )
     ensures answer { GivesUpAt key (W.part (C.shared cx.old)) ticket (C.number cx.old) (W.part (C.shared cx.new)) }
     ensures work { C.work cx.new ≡ C.work cx.old }
     ensures reached { C.reaches cx.old cx.new }
 {
     let me = cx.me();
-    leave_part::<W, T>(cx.shared_mut(), key, ticket, me)
+    leave_part::<W, T>(cx.shared_mut(), key, ticket_of(ticket), me)
 }
 
 // Replaces the watched value with this key.
@@ -235,7 +236,7 @@ impl<W: Holds<Many<Watch<T>>>, T: Drop, C: SharedContext<W>> TaskFuture<C> for C
         match ask::<W, T, C>(cx, self.key, self.seen, self.ticket) {
             Changing::Waits => Poll::Pending,
             Changing::Joined(ticket) => {
-                self.ticket = Some(ticket);
+                self.ticket = Some(ticket.number);
                 Poll::Pending
             }
             Changing::Changed(version) => {

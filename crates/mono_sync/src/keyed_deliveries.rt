@@ -11,7 +11,7 @@ ghost use Rattle.mono_sync.specs.Spent.{oneshot_at_spent};
 ghost use Rattle.mono_task.specs.Owed.{Keeps};
 
 use crate::deliveries::RecvError;
-use crate::lines::Ticket;
+use crate::lines::{Ticket, ticket_of};
 use crate::making::remove_idle;
 use crate::oneshot::{Oneshot, Receiving};
 use crate::parts::Holds;
@@ -28,7 +28,8 @@ use std::marker::PhantomData;
 #[derive(Drop)]
 pub struct RecvAt<W, T> {
     pub(crate) key: u64,
-    pub(crate) ticket: Option<Ticket>,
+    // The number of the ticket that the future drew.
+    pub(crate) ticket: Option<u64>,
     pub(crate) has_answered: bool,
     shared: PhantomData<W>,
     message: PhantomData<T>,
@@ -201,28 +202,28 @@ pub(crate) fn close_part<W: Holds<Many<Oneshot<T>>>, T: Drop>(whole: &mut W, key
 fn take<W: Holds<Many<Oneshot<T>>>, T: Drop, C: SharedContext<W>>(
     cx: &mut C,
     key: u64,
-    ticket: Option<Ticket>,
+    ticket: Option<u64>,
 ) -> Receiving<T>
     ensures answer { TakesAt key (W.part (C.shared cx.old)) ticket (C.number cx.old) result (W.part (C.shared cx.new)) }
     ensures work { C.work cx.new ≡ C.work cx.old }
     ensures reached { C.reaches cx.old cx.new }
 {
     let me = cx.me();
-    take_part::<W, T>(cx.shared_mut(), key, ticket, me)
+    take_part::<W, T>(cx.shared_mut(), key, ticket_of(ticket), me)
 }
 
 // Takes the running task's future out of the line of the channel with this key.
 fn leave<W: Holds<Many<Oneshot<T>>>, T: Drop, C: SharedContext<W>>(
     cx: &mut C,
     key: u64,
-    ticket: Option<Ticket>,
+    ticket: Option<u64>,
 )
     ensures answer { DropsAt key (W.part (C.shared cx.old)) ticket (C.number cx.old) (W.part (C.shared cx.new)) }
     ensures work { C.work cx.new ≡ C.work cx.old }
     ensures reached { C.reaches cx.old cx.new }
 {
     let me = cx.me();
-    drop_part::<W, T>(cx.shared_mut(), key, ticket, me)
+    drop_part::<W, T>(cx.shared_mut(), key, ticket_of(ticket), me)
 }
 
 /// Sends the message to the channel with this key. The runtime wakes the task that waits for it after the turn. The message
@@ -270,7 +271,7 @@ impl<W: Holds<Many<Oneshot<T>>>, T: Drop, C: SharedContext<W>> TaskFuture<C> for
         match take::<W, T, C>(cx, self.key, self.ticket) {
             Receiving::Waits => Poll::Pending,
             Receiving::Joined(ticket) => {
-                self.ticket = Some(ticket);
+                self.ticket = Some(ticket.number);
                 Poll::Pending
             }
             Receiving::Received(message) => {

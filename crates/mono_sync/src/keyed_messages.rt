@@ -9,7 +9,7 @@ ghost use Rattle.mono_sync.specs.KeyedMessages.{SendsAt, ReceivesAt, GivesUpSend
 ghost use Rattle.mono_sync.specs.Spent.{send_at_spent, recv_at_spent};
 ghost use Rattle.mono_task.specs.Owed.{Keeps};
 
-use crate::lines::Ticket;
+use crate::lines::{Ticket, ticket_of};
 use crate::messages::SendError;
 use crate::mpsc::{Channel, Receiving, Sending, TryRecvError, TrySendError};
 use crate::parts::Holds;
@@ -26,7 +26,8 @@ pub struct SendAt<W, T> {
     pub(crate) key: u64,
     // The message, until it is sent.
     pub(crate) message: Option<T>,
-    pub(crate) ticket: Option<Ticket>,
+    // The number of the ticket that the future drew.
+    pub(crate) ticket: Option<u64>,
     shared: PhantomData<W>,
 }
 
@@ -34,7 +35,8 @@ pub struct SendAt<W, T> {
 #[derive(Drop)]
 pub struct RecvAt<W, T> {
     pub(crate) key: u64,
-    pub(crate) ticket: Option<Ticket>,
+    // The number of the ticket that the future drew.
+    pub(crate) ticket: Option<u64>,
     pub(crate) has_answered: bool,
     shared: PhantomData<W>,
     message: PhantomData<T>,
@@ -110,7 +112,7 @@ fn send_part<W: Holds<Many<Channel<T>>>, T: Drop>(
 fn ask_send<W: Holds<Many<Channel<T>>>, T: Drop, C: SharedContext<W>>(
     cx: &mut C,
     key: u64,
-    ticket: Option<Ticket>,
+    ticket: Option<u64>,
     message: T,
 ) -> Sending<T>
     ensures answer { SendsAt key (W.part (C.shared cx.old)) ticket message (C.number cx.old) result (W.part (C.shared cx.new)) }
@@ -118,7 +120,7 @@ fn ask_send<W: Holds<Many<Channel<T>>>, T: Drop, C: SharedContext<W>>(
     ensures reached { C.reaches cx.old cx.new }
 {
     let me = cx.me();
-    send_part::<W, T>(cx.shared_mut(), key, ticket, message, me)
+    send_part::<W, T>(cx.shared_mut(), key, ticket_of(ticket), message, me)
 }
 
 // Asks the channel with this key for a future of this task that receives.
@@ -156,14 +158,14 @@ fn recv_part<W: Holds<Many<Channel<T>>>, T: Drop>(
 fn ask_recv<W: Holds<Many<Channel<T>>>, T: Drop, C: SharedContext<W>>(
     cx: &mut C,
     key: u64,
-    ticket: Option<Ticket>,
+    ticket: Option<u64>,
 ) -> Receiving<T>
     ensures answer { ReceivesAt key (W.part (C.shared cx.old)) ticket (C.number cx.old) result (W.part (C.shared cx.new)) }
     ensures work { C.work cx.new ≡ C.work cx.old }
     ensures reached { C.reaches cx.old cx.new }
 {
     let me = cx.me();
-    recv_part::<W, T>(cx.shared_mut(), key, ticket, me)
+    recv_part::<W, T>(cx.shared_mut(), key, ticket_of(ticket), me)
 }
 
 // Takes a future out of the line of senders of the channel with this key.
@@ -201,14 +203,14 @@ fn leave_send_part<W: Holds<Many<Channel<T>>>, T: Drop>(
 fn stop_send<W: Holds<Many<Channel<T>>>, T: Drop, C: SharedContext<W>>(
     cx: &mut C,
     key: u64,
-    ticket: Option<Ticket>,
+    ticket: Option<u64>,
 )
     ensures answer { GivesUpSendAt key (W.part (C.shared cx.old)) ticket (C.number cx.old) (W.part (C.shared cx.new)) }
     ensures work { C.work cx.new ≡ C.work cx.old }
     ensures reached { C.reaches cx.old cx.new }
 {
     let me = cx.me();
-    leave_send_part::<W, T>(cx.shared_mut(), key, ticket, me);
+    leave_send_part::<W, T>(cx.shared_mut(), key, ticket_of(ticket), me);
 }
 
 // Takes a future out of the line of receivers of the channel with this key.
@@ -246,14 +248,14 @@ fn leave_recv_part<W: Holds<Many<Channel<T>>>, T: Drop>(
 fn stop_recv<W: Holds<Many<Channel<T>>>, T: Drop, C: SharedContext<W>>(
     cx: &mut C,
     key: u64,
-    ticket: Option<Ticket>,
+    ticket: Option<u64>,
 )
     ensures answer { GivesUpReceiveAt key (W.part (C.shared cx.old)) ticket (C.number cx.old) (W.part (C.shared cx.new)) }
     ensures work { C.work cx.new ≡ C.work cx.old }
     ensures reached { C.reaches cx.old cx.new }
 {
     let me = cx.me();
-    leave_recv_part::<W, T>(cx.shared_mut(), key, ticket, me);
+    leave_recv_part::<W, T>(cx.shared_mut(), key, ticket_of(ticket), me);
 }
 
 // Sends a message to the channel with this key at once.
@@ -405,7 +407,7 @@ impl<W: Holds<Many<Channel<T>>>, T: Drop, C: SharedContext<W>> TaskFuture<C> for
                 Poll::Ready(Err(SendError::Memory(message)))
             }
             Sending::Joined(ticket, message) => {
-                self.ticket = Some(ticket);
+                self.ticket = Some(ticket.number);
                 self.message = Some(message);
                 Poll::Pending
             }
@@ -447,7 +449,7 @@ impl<W: Holds<Many<Channel<T>>>, T: Drop, C: SharedContext<W>> TaskFuture<C> for
         match ask_recv::<W, T, C>(cx, self.key, self.ticket) {
             Receiving::Waits => Poll::Pending,
             Receiving::Joined(ticket) => {
-                self.ticket = Some(ticket);
+                self.ticket = Some(ticket.number);
                 Poll::Pending
             }
             Receiving::Received(message) => {

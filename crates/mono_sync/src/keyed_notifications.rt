@@ -10,7 +10,7 @@ ghost use Rattle.mono_sync.specs.KeyedNotices.{AwaitsAt, GivesUpAt, NotifiesOneA
 ghost use Rattle.mono_sync.specs.Spent.{notified_at_spent};
 ghost use Rattle.mono_task.specs.Owed.{Keeps};
 
-use crate::lines::Ticket;
+use crate::lines::{Ticket, ticket_of};
 use crate::notices::{Notify, Notifying};
 use crate::parts::Holds;
 use crate::tables::Many;
@@ -23,7 +23,8 @@ use std::marker::PhantomData;
 #[derive(Drop)]
 pub struct NotifiedAt<W> {
     pub(crate) key: u64,
-    pub(crate) ticket: Option<Ticket>,
+    // The number of the ticket that the future drew.
+    pub(crate) ticket: Option<u64>,
     pub(crate) has_answered: bool,
     shared: PhantomData<W>,
 }
@@ -88,14 +89,14 @@ fn ask_part<W: Holds<Many<Notify>>>(
 fn ask<W: Holds<Many<Notify>>, C: SharedContext<W>>(
     cx: &mut C,
     key: u64,
-    ticket: Option<Ticket>,
+    ticket: Option<u64>,
 ) -> Option<Notifying>
     ensures answer { AwaitsAt key (W.part (C.shared cx.old)) ticket (C.number cx.old) result (W.part (C.shared cx.new)) }
     ensures work { C.work cx.new ≡ C.work cx.old }
     ensures reached { C.reaches cx.old cx.new }
 {
     let me = cx.me();
-    ask_part::<W>(cx.shared_mut(), key, ticket, me)
+    ask_part::<W>(cx.shared_mut(), key, ticket_of(ticket), me)
 }
 
 impl<W: Holds<Many<Notify>>> NotifiedAt<W> {
@@ -117,7 +118,7 @@ impl<W: Holds<Many<Notify>>> NotifiedAt<W> {
         match answer {
             Notifying::Waits => Poll::Pending,
             Notifying::Joined(ticket) => {
-                self.ticket = Some(ticket);
+                self.ticket = Some(ticket.number);
                 Poll::Pending
             }
             Notifying::Notified => {
@@ -156,13 +157,13 @@ fn leave_part<W: Holds<Many<Notify>>>(whole: &mut W, key: u64, ticket: Option<Ti
 }
 
 // Takes a future out of the line of the notice with this key, for the running task.
-fn leave<W: Holds<Many<Notify>>, C: SharedContext<W>>(cx: &mut C, key: u64, ticket: Option<Ticket>)
+fn leave<W: Holds<Many<Notify>>, C: SharedContext<W>>(cx: &mut C, key: u64, ticket: Option<u64>)
     ensures answer { GivesUpAt key (W.part (C.shared cx.old)) ticket (C.number cx.old) (W.part (C.shared cx.new)) }
     ensures work { C.work cx.new ≡ C.work cx.old }
     ensures reached { C.reaches cx.old cx.new }
 {
     let me = cx.me();
-    leave_part::<W>(cx.shared_mut(), key, ticket, me)
+    leave_part::<W>(cx.shared_mut(), key, ticket_of(ticket), me)
 }
 
 // Notifies one task that waits for the notice with this key.

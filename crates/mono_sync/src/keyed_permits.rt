@@ -9,7 +9,7 @@ ghost use Rattle.mono_sync.specs.KeyedPermits.{AcquiresAt, GivesUpAt, TriesToAcq
 ghost use Rattle.mono_sync.specs.Spent.{acquire_at_spent};
 ghost use Rattle.mono_task.specs.Owed.{Keeps};
 
-use crate::lines::Ticket;
+use crate::lines::{Ticket, ticket_of};
 use crate::parts::Holds;
 use crate::permits::AcquireError;
 use crate::semaphores::{Acquiring, Semaphore, TooManyPermits, TryAcquireError};
@@ -23,7 +23,8 @@ use std::marker::PhantomData;
 #[derive(Drop)]
 pub struct AcquireAt<W> {
     pub(crate) key: u64,
-    pub(crate) ticket: Option<Ticket>,
+    // The number of the ticket that the future drew.
+    pub(crate) ticket: Option<u64>,
     pub(crate) has_answered: bool,
     shared: PhantomData<W>,
 }
@@ -79,14 +80,14 @@ fn ask_part<W: Holds<Many<Semaphore>>>(
 fn ask<W: Holds<Many<Semaphore>>, C: SharedContext<W>>(
     cx: &mut C,
     key: u64,
-    ticket: Option<Ticket>,
+    ticket: Option<u64>,
 ) -> Acquiring
     ensures answer { AcquiresAt key (W.part (C.shared cx.old)) ticket (C.number cx.old) result (W.part (C.shared cx.new)) }
     ensures work { C.work cx.new ≡ C.work cx.old }
     ensures reached { C.reaches cx.old cx.new }
 {
     let me = cx.me();
-    ask_part::<W>(cx.shared_mut(), key, ticket, me)
+    ask_part::<W>(cx.shared_mut(), key, ticket_of(ticket), me)
 }
 
 // Takes a future out of the line of the semaphore with this key.
@@ -111,17 +112,13 @@ fn leave_part<W: Holds<Many<Semaphore>>>(whole: &mut W, key: u64, ticket: Option
 }
 
 // Takes the running task's future out of the line of the semaphore with this key.
-fn leave<W: Holds<Many<Semaphore>>, C: SharedContext<W>>(
-    cx: &mut C,
-    key: u64,
-    ticket: Option<Ticket>,
-)
+fn leave<W: Holds<Many<Semaphore>>, C: SharedContext<W>>(cx: &mut C, key: u64, ticket: Option<u64>)
     ensures answer { GivesUpAt key (W.part (C.shared cx.old)) ticket (C.number cx.old) (W.part (C.shared cx.new)) }
     ensures work { C.work cx.new ≡ C.work cx.old }
     ensures reached { C.reaches cx.old cx.new }
 {
     let me = cx.me();
-    leave_part::<W>(cx.shared_mut(), key, ticket, me);
+    leave_part::<W>(cx.shared_mut(), key, ticket_of(ticket), me);
 }
 
 // Takes a permit of the semaphore with this key at once.
@@ -256,7 +253,7 @@ impl<W: Holds<Many<Semaphore>>, C: SharedContext<W>> TaskFuture<C> for AcquireAt
         match ask::<W, C>(cx, self.key, self.ticket) {
             Acquiring::Waits => Poll::Pending,
             Acquiring::Joined(ticket) => {
-                self.ticket = Some(ticket);
+                self.ticket = Some(ticket.number);
                 Poll::Pending
             }
             Acquiring::Acquired => {

@@ -7,7 +7,7 @@ ghost use Rattle.mono_sync.specs.Messages.{SendPolls, SendGives, SendCancels, Re
 ghost use Rattle.mono_sync.specs.Spent.{send_spent, recv_spent};
 ghost use Rattle.mono_task.specs.Owed.{Keeps};
 
-use crate::lines::Ticket;
+use crate::lines::{Ticket, ticket_of};
 use crate::mpsc::{Channel, Receiving, Sending, TryRecvError, TrySendError};
 use crate::parts::Holds;
 use mono_model::{Host, Poll};
@@ -21,14 +21,16 @@ use std::mem;
 pub struct Send<W, T> {
     // The message, until it is sent.
     pub(crate) message: Option<T>,
-    pub(crate) ticket: Option<Ticket>,
+    // The number of the ticket that the future drew.
+    pub(crate) ticket: Option<u64>,
     shared: PhantomData<W>,
 }
 
 /// A future that receives a message over the tasks' channel, and waits while there is none.
 #[derive(Drop)]
 pub struct Recv<W, T> {
-    pub(crate) ticket: Option<Ticket>,
+    // The number of the ticket that the future drew.
+    pub(crate) ticket: Option<u64>,
     pub(crate) has_answered: bool,
     shared: PhantomData<W>,
     message: PhantomData<T>,
@@ -150,7 +152,7 @@ pub(crate) fn close_part<W: Holds<Channel<T>>, T: Drop>(whole: &mut W)
 // Asks the channel for the running task's future that sends.
 fn ask_send<W: Holds<Channel<T>>, T: Drop, C: SharedContext<W>>(
     cx: &mut C,
-    ticket: Option<Ticket>,
+    ticket: Option<u64>,
     message: T,
 ) -> Sending<T>
     ensures answer { Sends (W.part (C.shared cx.old)) ticket message (C.number cx.old) result (W.part (C.shared cx.new)) }
@@ -158,46 +160,40 @@ fn ask_send<W: Holds<Channel<T>>, T: Drop, C: SharedContext<W>>(
     ensures reached { C.reaches cx.old cx.new }
 {
     let me = cx.me();
-    send_part::<W, T>(cx.shared_mut(), ticket, message, me)
+    send_part::<W, T>(cx.shared_mut(), ticket_of(ticket), message, me)
 }
 
 // Asks the channel for the running task's future that receives.
 fn ask_recv<W: Holds<Channel<T>>, T: Drop, C: SharedContext<W>>(
     cx: &mut C,
-    ticket: Option<Ticket>,
+    ticket: Option<u64>,
 ) -> Receiving<T>
     ensures answer { Receives (W.part (C.shared cx.old)) ticket (C.number cx.old) result (W.part (C.shared cx.new)) }
     ensures work { C.work cx.new ≡ C.work cx.old }
     ensures reached { C.reaches cx.old cx.new }
 {
     let me = cx.me();
-    recv_part::<W, T>(cx.shared_mut(), ticket, me)
+    recv_part::<W, T>(cx.shared_mut(), ticket_of(ticket), me)
 }
 
 // Takes the running task's future out of the line of senders.
-fn leave_send<W: Holds<Channel<T>>, T: Drop, C: SharedContext<W>>(
-    cx: &mut C,
-    ticket: Option<Ticket>,
-)
+fn leave_send<W: Holds<Channel<T>>, T: Drop, C: SharedContext<W>>(cx: &mut C, ticket: Option<u64>)
     ensures answer { GivesUpSend (W.part (C.shared cx.old)) ticket (C.number cx.old) (W.part (C.shared cx.new)) }
     ensures work { C.work cx.new ≡ C.work cx.old }
     ensures reached { C.reaches cx.old cx.new }
 {
     let me = cx.me();
-    leave_send_part::<W, T>(cx.shared_mut(), ticket, me)
+    leave_send_part::<W, T>(cx.shared_mut(), ticket_of(ticket), me)
 }
 
 // Takes the running task's future out of the line of receivers.
-fn leave_recv<W: Holds<Channel<T>>, T: Drop, C: SharedContext<W>>(
-    cx: &mut C,
-    ticket: Option<Ticket>,
-)
+fn leave_recv<W: Holds<Channel<T>>, T: Drop, C: SharedContext<W>>(cx: &mut C, ticket: Option<u64>)
     ensures answer { GivesUpReceive (W.part (C.shared cx.old)) ticket (C.number cx.old) (W.part (C.shared cx.new)) }
     ensures work { C.work cx.new ≡ C.work cx.old }
     ensures reached { C.reaches cx.old cx.new }
 {
     let me = cx.me();
-    leave_recv_part::<W, T>(cx.shared_mut(), ticket, me)
+    leave_recv_part::<W, T>(cx.shared_mut(), ticket_of(ticket), me)
 }
 
 /// Sends a message at once. If tasks wait to receive, it is owed to the first of them, which the runtime wakes after the
@@ -282,7 +278,7 @@ impl<W: Holds<Channel<T>>, T: Drop, C: SharedContext<W>> TaskFuture<C> for Send<
                 Poll::Ready(Err(SendError::Memory(message)))
             }
             Sending::Joined(ticket, message) => {
-                self.ticket = Some(ticket);
+                self.ticket = Some(ticket.number);
                 self.message = Some(message);
                 Poll::Pending
             }
@@ -324,7 +320,7 @@ impl<W: Holds<Channel<T>>, T: Drop, C: SharedContext<W>> TaskFuture<C> for Recv<
         match ask_recv::<W, T, C>(cx, self.ticket) {
             Receiving::Waits => Poll::Pending,
             Receiving::Joined(ticket) => {
-                self.ticket = Some(ticket);
+                self.ticket = Some(ticket.number);
                 Poll::Pending
             }
             Receiving::Received(message) => {

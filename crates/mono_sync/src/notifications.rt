@@ -7,7 +7,7 @@ ghost use Rattle.mono_sync.specs.Notifications.{NotifiedPolls, NotifiedGives, No
 ghost use Rattle.mono_sync.specs.Spent.{notified_spent};
 ghost use Rattle.mono_task.specs.Owed.{Keeps};
 
-use crate::lines::Ticket;
+use crate::lines::{Ticket, ticket_of};
 use crate::notices::{Notify, Notifying};
 use crate::parts::Holds;
 use mono_model::{Host, Poll};
@@ -18,7 +18,8 @@ use std::marker::PhantomData;
 /// A future that waits for a notice that the tasks share.
 #[derive(Drop)]
 pub struct Notified<W> {
-    pub(crate) ticket: Option<Ticket>,
+    // The number of the ticket that the future drew.
+    pub(crate) ticket: Option<u64>,
     pub(crate) has_answered: bool,
     shared: PhantomData<W>,
 }
@@ -74,23 +75,23 @@ pub(crate) fn all_part<W: Holds<Notify>>(whole: &mut W)
 }
 
 // Asks the notice for the running task's future.
-fn ask<W: Holds<Notify>, C: SharedContext<W>>(cx: &mut C, ticket: Option<Ticket>) -> Notifying
+fn ask<W: Holds<Notify>, C: SharedContext<W>>(cx: &mut C, ticket: Option<u64>) -> Notifying
     ensures answer { Awaits (W.part (C.shared cx.old)) ticket (C.number cx.old) result (W.part (C.shared cx.new)) }
     ensures work { C.work cx.new ≡ C.work cx.old }
     ensures reached { C.reaches cx.old cx.new }
 {
     let me = cx.me();
-    ask_part(cx.shared_mut(), ticket, me)
+    ask_part(cx.shared_mut(), ticket_of(ticket), me)
 }
 
 // Takes the running task's future out of the line.
-fn leave<W: Holds<Notify>, C: SharedContext<W>>(cx: &mut C, ticket: Option<Ticket>)
+fn leave<W: Holds<Notify>, C: SharedContext<W>>(cx: &mut C, ticket: Option<u64>)
     ensures answer { GivesUp (W.part (C.shared cx.old)) ticket (C.number cx.old) (W.part (C.shared cx.new)) }
     ensures work { C.work cx.new ≡ C.work cx.old }
     ensures reached { C.reaches cx.old cx.new }
 {
     let me = cx.me();
-    leave_part(cx.shared_mut(), ticket, me)
+    leave_part(cx.shared_mut(), ticket_of(ticket), me)
 }
 
 impl<W: Holds<Notify>> Notified<W> {
@@ -106,7 +107,7 @@ impl<W: Holds<Notify>> Notified<W> {
         match ask::<W, C>(cx, self.ticket) {
             Notifying::Waits => Poll::Pending,
             Notifying::Joined(ticket) => {
-                self.ticket = Some(ticket);
+                self.ticket = Some(ticket.number);
                 Poll::Pending
             }
             Notifying::Notified => {

@@ -8,7 +8,7 @@ ghost use Rattle.mono_sync.specs.Spent.{acquire_spent};
 ghost use Rattle.mono_task.specs.Owed.{Keeps};
 
 pub use crate::keyed_permits::{close_at, release_at, try_acquire_at};
-use crate::lines::Ticket;
+use crate::lines::{Ticket, ticket_of};
 use crate::parts::Holds;
 use crate::semaphores::{Acquiring, Semaphore, TooManyPermits, TryAcquireError};
 use mono_model::{Host, Poll};
@@ -19,7 +19,8 @@ use std::marker::PhantomData;
 /// A future that acquires a permit of the tasks' semaphore, and waits for one if none is free.
 #[derive(Drop)]
 pub struct Acquire<W> {
-    pub(crate) ticket: Option<Ticket>,
+    // The number of the ticket that the future drew.
+    pub(crate) ticket: Option<u64>,
     pub(crate) has_answered: bool,
     shared: PhantomData<W>,
 }
@@ -93,23 +94,23 @@ pub(crate) fn close_part<W: Holds<Semaphore>>(whole: &mut W)
 }
 
 // Asks the semaphore for the running task's future.
-fn ask<W: Holds<Semaphore>, C: SharedContext<W>>(cx: &mut C, ticket: Option<Ticket>) -> Acquiring
+fn ask<W: Holds<Semaphore>, C: SharedContext<W>>(cx: &mut C, ticket: Option<u64>) -> Acquiring
     ensures answer { Acquires (W.part (C.shared cx.old)) ticket (C.number cx.old) result (W.part (C.shared cx.new)) }
     ensures work { C.work cx.new ≡ C.work cx.old }
     ensures reached { C.reaches cx.old cx.new }
 {
     let me = cx.me();
-    ask_part(cx.shared_mut(), ticket, me)
+    ask_part(cx.shared_mut(), ticket_of(ticket), me)
 }
 
 // Takes the running task's future out of the line.
-fn leave<W: Holds<Semaphore>, C: SharedContext<W>>(cx: &mut C, ticket: Option<Ticket>)
+fn leave<W: Holds<Semaphore>, C: SharedContext<W>>(cx: &mut C, ticket: Option<u64>)
     ensures answer { GivesUp (W.part (C.shared cx.old)) ticket (C.number cx.old) (W.part (C.shared cx.new)) }
     ensures work { C.work cx.new ≡ C.work cx.old }
     ensures reached { C.reaches cx.old cx.new }
 {
     let me = cx.me();
-    leave_part(cx.shared_mut(), ticket, me)
+    leave_part(cx.shared_mut(), ticket_of(ticket), me)
 }
 
 /// Takes a permit at once. Refused with `Closed` if the semaphore was closed, and with `NoPermits` if no permit is free.
@@ -168,7 +169,7 @@ impl<W: Holds<Semaphore>, C: SharedContext<W>> TaskFuture<C> for Acquire<W> {
         match ask::<W, C>(cx, self.ticket) {
             Acquiring::Waits => Poll::Pending,
             Acquiring::Joined(ticket) => {
-                self.ticket = Some(ticket);
+                self.ticket = Some(ticket.number);
                 Poll::Pending
             }
             Acquiring::Acquired => {

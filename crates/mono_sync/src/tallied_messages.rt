@@ -7,7 +7,7 @@ ghost use Rattle.mono_sync.specs.Messages.{SendPolls, SendGives, SendCancels, Re
 ghost use Rattle.mono_sync.specs.TallySpent.{send_spent, recv_spent};
 ghost use Rattle.mono_task.specs.Owed.{Keeps};
 
-use crate::lines::Ticket;
+use crate::lines::{Ticket, ticket_of};
 use crate::messages::SendError;
 use crate::mpsc::{Receiving, Sending};
 use crate::parts::Holds;
@@ -24,7 +24,8 @@ use std::mem;
 pub struct Send<W, T, S> {
     // The message, until it is sent.
     pub(crate) message: Option<T>,
-    pub(crate) ticket: Option<Ticket>,
+    // The number of the ticket that the future drew.
+    pub(crate) ticket: Option<u64>,
     shared: PhantomData<W>,
     tally: PhantomData<S>,
 }
@@ -33,7 +34,8 @@ pub struct Send<W, T, S> {
 /// notes the message.
 #[derive(Drop)]
 pub struct Recv<W, T, S> {
-    pub(crate) ticket: Option<Ticket>,
+    // The number of the ticket that the future drew.
+    pub(crate) ticket: Option<u64>,
     pub(crate) has_answered: bool,
     shared: PhantomData<W>,
     message: PhantomData<T>,
@@ -136,7 +138,7 @@ pub(crate) fn close_part<W: Holds<Tallied<T, S>>, T: Drop, S: Tally<T>>(whole: &
 // Asks the channel for the running task's future that sends.
 fn ask_send<W: Holds<Tallied<T, S>>, T: Drop, S: Tally<T>, C: SharedContext<W>>(
     cx: &mut C,
-    ticket: Option<Ticket>,
+    ticket: Option<u64>,
     message: T,
 ) -> Sending<T>
     ensures answer { Sends (W.part (C.shared cx.old)).channel ticket message (C.number cx.old) result (W.part (C.shared cx.new)).channel }
@@ -144,46 +146,46 @@ fn ask_send<W: Holds<Tallied<T, S>>, T: Drop, S: Tally<T>, C: SharedContext<W>>(
     ensures reached { C.reaches cx.old cx.new }
 {
     let me = cx.me();
-    send_part::<W, T, S>(cx.shared_mut(), ticket, message, me)
+    send_part::<W, T, S>(cx.shared_mut(), ticket_of(ticket), message, me)
 }
 
 // Asks the channel for the running task's future that receives.
 fn ask_recv<W: Holds<Tallied<T, S>>, T: Drop, S: Tally<T>, C: SharedContext<W>>(
     cx: &mut C,
-    ticket: Option<Ticket>,
+    ticket: Option<u64>,
 ) -> Receiving<T>
     ensures answer { Receives (W.part (C.shared cx.old)).channel ticket (C.number cx.old) result (W.part (C.shared cx.new)).channel }
     ensures work { C.work cx.new ≡ C.work cx.old }
     ensures reached { C.reaches cx.old cx.new }
 {
     let me = cx.me();
-    recv_part::<W, T, S>(cx.shared_mut(), ticket, me)
+    recv_part::<W, T, S>(cx.shared_mut(), ticket_of(ticket), me)
 }
 
 // Takes the running task's future out of the line of senders.
 fn leave_send<W: Holds<Tallied<T, S>>, T: Drop, S: Tally<T>, C: SharedContext<W>>(
     cx: &mut C,
-    ticket: Option<Ticket>,
+    ticket: Option<u64>,
 )
     ensures answer { GivesUpSend (W.part (C.shared cx.old)).channel ticket (C.number cx.old) (W.part (C.shared cx.new)).channel }
     ensures work { C.work cx.new ≡ C.work cx.old }
     ensures reached { C.reaches cx.old cx.new }
 {
     let me = cx.me();
-    leave_send_part::<W, T, S>(cx.shared_mut(), ticket, me)
+    leave_send_part::<W, T, S>(cx.shared_mut(), ticket_of(ticket), me)
 }
 
 // Takes the running task's future out of the line of receivers.
 fn leave_recv<W: Holds<Tallied<T, S>>, T: Drop, S: Tally<T>, C: SharedContext<W>>(
     cx: &mut C,
-    ticket: Option<Ticket>,
+    ticket: Option<u64>,
 )
     ensures answer { GivesUpReceive (W.part (C.shared cx.old)).channel ticket (C.number cx.old) (W.part (C.shared cx.new)).channel }
     ensures work { C.work cx.new ≡ C.work cx.old }
     ensures reached { C.reaches cx.old cx.new }
 {
     let me = cx.me();
-    leave_recv_part::<W, T, S>(cx.shared_mut(), ticket, me)
+    leave_recv_part::<W, T, S>(cx.shared_mut(), ticket_of(ticket), me)
 }
 
 /// The future answers once the message is queued. It fails if the channel was closed, or if out of memory; then the
@@ -227,7 +229,7 @@ impl<W: Holds<Tallied<T, S>>, T: Drop, S: Tally<T>, C: SharedContext<W>> TaskFut
                 Poll::Ready(Err(SendError::Memory(message)))
             }
             Sending::Joined(ticket, message) => {
-                self.ticket = Some(ticket);
+                self.ticket = Some(ticket.number);
                 self.message = Some(message);
                 Poll::Pending
             }
@@ -270,7 +272,7 @@ impl<W: Holds<Tallied<T, S>>, T: Drop, S: Tally<T>, C: SharedContext<W>> TaskFut
         match ask_recv::<W, T, S, C>(cx, self.ticket) {
             Receiving::Waits => Poll::Pending,
             Receiving::Joined(ticket) => {
-                self.ticket = Some(ticket);
+                self.ticket = Some(ticket.number);
                 Poll::Pending
             }
             Receiving::Received(message) => {

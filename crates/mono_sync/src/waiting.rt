@@ -10,7 +10,7 @@ ghost use Rattle.mono_sync.specs.Spent.{wait_for_spent};
 ghost use Rattle.mono_task.specs.Owed.{Keeps};
 
 use crate::changes::{ChangedError, leave};
-use crate::lines::Ticket;
+use crate::lines::{Ticket, ticket_of};
 use crate::parts::Holds;
 use crate::watch::{Changing, Watch};
 use mono_model::{Host, Poll};
@@ -22,7 +22,8 @@ use std::marker::PhantomData;
 #[derive(Drop)]
 pub struct WaitFor<W, T, F> {
     pub(crate) func: F,
-    pub(crate) ticket: Option<Ticket>,
+    // The number of the ticket that the future drew.
+    pub(crate) ticket: Option<u64>,
     pub(crate) has_answered: bool,
     shared: PhantomData<W>,
     value: PhantomData<T>,
@@ -63,7 +64,7 @@ fn ask_part<W: Holds<Watch<T>>, T: Drop, F: Fn(&T) -> bool>(
 fn ask<W: Holds<Watch<T>>, T: Drop, C: SharedContext<W>, F: Fn(&T) -> bool>(
     cx: &mut C,
     func: &F,
-    ticket: Option<Ticket>,
+    ticket: Option<u64>,
 ) -> Changing
     requires callable { F.IsAlwaysCallable func.now }
     ensures answer { WaitsFor (FnReturnsAt F.Fn func.now) (W.part (C.shared cx.old)) ticket (C.number cx.old) result (W.part (C.shared cx.new)) }
@@ -71,7 +72,7 @@ fn ask<W: Holds<Watch<T>>, T: Drop, C: SharedContext<W>, F: Fn(&T) -> bool>(
     ensures reached { C.reaches cx.old cx.new }
 {
     let me = cx.me();
-    ask_part::<W, T, F>(cx.shared_mut(), func, ticket, me)
+    ask_part::<W, T, F>(cx.shared_mut(), func, ticket_of(ticket), me)
 }
 
 /// The future answers the version of the last value once the value meets the condition, also if the value was closed. It fails
@@ -103,7 +104,7 @@ impl<W: Holds<Watch<T>>, T: Drop, C: SharedContext<W>, F: Fn(&T) -> bool + Drop>
         match ask::<W, T, C, F>(cx, &self.func, self.ticket) {
             Changing::Waits => Poll::Pending,
             Changing::Joined(ticket) => {
-                self.ticket = Some(ticket);
+                self.ticket = Some(ticket.number);
                 Poll::Pending
             }
             Changing::Changed(version) => {

@@ -5,4 +5,4 @@ use Rattle.mono_sync.proofs.keyed_changes.ask.Goals as goal
 pub returns-clause-answer : goal.returns-clause-answer
 returns-clause-answer g c =
     subst (λ w. ChangesAt c.args.key (g.W.Holds.part (g.C.SharedContext.shared c.args.cx.now)) c.args.seen c.args.ticket (g.C.Context.number c.args.cx.now) c.ask_part.result (g.W.Holds.part w)) (sym (g.met.C.SharedContext.shared_with c.args.cx.now c.ask_part.new.whole))
-    (subst (λ w. ChangesAt c.args.key (g.W.Holds.part w) c.args.seen c.args.ticket (g.C.Context.number c.args.cx.now) c.ask_part.result (g.W.Holds.part c.ask_part.new.whole)) c.shared_mut.ensures.value (subst (λ n. ChangesAt c.args.key (g.W.Holds.part c.shared_mut.result.now) c.args.seen c.args.ticket n c.ask_part.result (g.W.Holds.part c.ask_part.new.whole)) c.me-me.ensures c.ask_part.ensures.answer))
+    (subst (λ w. ChangesAt c.args.key (g.W.Holds.part w) c.args.seen c.args.ticket (g.C.Context.number c.args.cx.now) c.ask_part.result (g.W.Holds.part c.ask_part.new.whole)) c.shared_mut.ensures.value (subst (λ t. ChangesAt c.args.key (g.W.Holds.part c.shared_mut.result.now) c.args.seen t (g.C.Context.number c.args.cx.now) c.ask_part.result (g.W.Holds.part c.ask_part.new.whole)) c.ticket_of.ensures (subst (λ n. ChangesAt c.args.key (g.W.Holds.part c.shared_mut.result.now) c.args.seen c.ticket_of.result n c.ask_part.result (g.W.Holds.part c.ask_part.new.whole)) c.me-me.ensures c.ask_part.ensures.answer)))

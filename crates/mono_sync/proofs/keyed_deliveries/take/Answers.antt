@@ -5,4 +5,4 @@ use Rattle.mono_sync.proofs.keyed_deliveries.take.Goals as goal
 pub returns-clause-answer : goal.returns-clause-answer
 returns-clause-answer g c =
     subst (λ w. TakesAt c.args.key (g.W.Holds.part (g.C.SharedContext.shared c.args.cx.now)) c.args.ticket (g.C.Context.number c.args.cx.now) c.take_part.result (g.W.Holds.part w)) (sym (g.met.C.SharedContext.shared_with c.args.cx.now c.take_part.new.whole))
-    (subst (λ w. TakesAt c.args.key (g.W.Holds.part w) c.args.ticket (g.C.Context.number c.args.cx.now) c.take_part.result (g.W.Holds.part c.take_part.new.whole)) c.shared_mut.ensures.value (subst (λ n. TakesAt c.args.key (g.W.Holds.part c.shared_mut.result.now) c.args.ticket n c.take_part.result (g.W.Holds.part c.take_part.new.whole)) c.me-me.ensures c.take_part.ensures.answer))
+    (subst (λ w. TakesAt c.args.key (g.W.Holds.part w) c.args.ticket (g.C.Context.number c.args.cx.now) c.take_part.result (g.W.Holds.part c.take_part.new.whole)) c.shared_mut.ensures.value (subst (λ t. TakesAt c.args.key (g.W.Holds.part c.shared_mut.result.now) t (g.C.Context.number c.args.cx.now) c.take_part.result (g.W.Holds.part c.take_part.new.whole)) c.ticket_of.ensures (subst (λ n. TakesAt c.args.key (g.W.Holds.part c.shared_mut.result.now) c.ticket_of.result n c.take_part.result (g.W.Holds.part c.take_part.new.whole)) c.me-me.ensures c.take_part.ensures.answer)))

@@ -5,4 +5,4 @@ use Rattle.mono_sync.proofs.keyed_messages.stop_recv.Goals as goal
 pub returns-clause-answer : goal.returns-clause-answer
 returns-clause-answer g c =
     subst (λ w. GivesUpReceiveAt c.args.key (g.W.Holds.part (g.C.SharedContext.shared c.args.cx.now)) c.args.ticket (g.C.Context.number c.args.cx.now) (g.W.Holds.part w)) (sym (g.met.C.SharedContext.shared_with c.args.cx.now c.leave_recv_part.new.whole))
-    (subst (λ w. GivesUpReceiveAt c.args.key (g.W.Holds.part w) c.args.ticket (g.C.Context.number c.args.cx.now) (g.W.Holds.part c.leave_recv_part.new.whole)) c.shared_mut.ensures.value (subst (λ n. GivesUpReceiveAt c.args.key (g.W.Holds.part c.shared_mut.result.now) c.args.ticket n (g.W.Holds.part c.leave_recv_part.new.whole)) c.me-me.ensures c.leave_recv_part.ensures.answer))
+    (subst (λ w. GivesUpReceiveAt c.args.key (g.W.Holds.part w) c.args.ticket (g.C.Context.number c.args.cx.now) (g.W.Holds.part c.leave_recv_part.new.whole)) c.shared_mut.ensures.value (subst (λ t. GivesUpReceiveAt c.args.key (g.W.Holds.part c.shared_mut.result.now) t (g.C.Context.number c.args.cx.now) (g.W.Holds.part c.leave_recv_part.new.whole)) c.ticket_of.ensures (subst (λ n. GivesUpReceiveAt c.args.key (g.W.Holds.part c.shared_mut.result.now) c.ticket_of.result n (g.W.Holds.part c.leave_recv_part.new.whole)) c.me-me.ensures c.leave_recv_part.ensures.answer)))
