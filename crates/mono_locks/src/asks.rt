@@ -6,7 +6,7 @@ ghost use Rattle.mono_locks.specs.declared.queues.Asked.{Asked};
 ghost use Rattle.mono_locks.specs.Polls.{AskPolls, AskGives, AskCancels, ask_spent};
 ghost use Rattle.mono_task.specs.Owed.{Keeps};
 
-use crate::queues::{Asked, Ticket};
+use crate::queues::{Asked, Ticket, ticket_of};
 use mono_forms::FutureExt;
 use mono_model::{Host, Poll};
 use mono_task::{SharedContext, SharedState, TaskFuture};
@@ -44,7 +44,8 @@ pub trait Ask<W: SharedState>: Drop {
 #[derive(Drop)]
 pub struct Asking<W, K> {
     pub(crate) call: K,
-    pub(crate) ticket: Option<Ticket>,
+    // The number of the ticket that the future drew.
+    pub(crate) ticket: Option<u64>,
     pub(crate) has_answered: bool,
     shared: PhantomData<W>,
 }
@@ -67,28 +68,28 @@ pub fn ask_for<W, K>(call: K) -> Asking<W, K>
 fn ask_in<W: SharedState, C: SharedContext<W>, K: Ask<W>>(
     cx: &mut C,
     call: &K,
-    ticket: Option<Ticket>,
+    ticket: Option<u64>,
 ) -> Asked<K::Gets>
     ensures asked { K.asks call.now ticket (C.number cx.old) (C.shared cx.old) result (C.shared cx.new) }
     ensures work { C.work cx.new ≡ C.work cx.old }
     ensures reached { C.reaches cx.old cx.new }
 {
     let me = cx.me();
-    call.ask(cx.shared_mut(), ticket, me)
+    call.ask(cx.shared_mut(), ticket_of(ticket), me)
 }
 
 // Takes the running task's future out of the queue.
 fn leave_in<W: SharedState, C: SharedContext<W>, K: Ask<W>>(
     cx: &mut C,
     call: &K,
-    ticket: Option<Ticket>,
+    ticket: Option<u64>,
 )
     ensures left { K.leaves call.now ticket (C.number cx.old) (C.shared cx.old) (C.shared cx.new) }
     ensures work { C.work cx.new ≡ C.work cx.old }
     ensures reached { C.reaches cx.old cx.new }
 {
     let me = cx.me();
-    call.leave(cx.shared_mut(), ticket, me)
+    call.leave(cx.shared_mut(), ticket_of(ticket), me)
 }
 
 /// The future answers what it asked for. It fails if out of memory.
@@ -116,7 +117,7 @@ impl<W: SharedState, C: SharedContext<W>, K: Ask<W>> TaskFuture<C> for Asking<W,
         match ask_in::<W, C, K>(cx, &self.call, self.ticket) {
             Asked::Waits => Poll::Pending,
             Asked::Joined(ticket) => {
-                self.ticket = Some(ticket);
+                self.ticket = Some(ticket.number);
                 Poll::Pending
             }
             Asked::Got(got) => {

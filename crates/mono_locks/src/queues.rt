@@ -10,7 +10,7 @@ use std::marker::Model;
 /// The ticket that a future drew at a queue. Only a queue makes one.
 #[derive(Debug, Clone, Copy)]
 pub struct Ticket {
-    number: u64,
+    pub(crate) number: u64,
 }
 
 /// In clauses a ticket is its number.
@@ -31,6 +31,14 @@ impl Ticket {
     {
         self.number
     }
+}
+
+// Returns the ticket with this number, if any. A future keeps the number alone: the prover refuses a closure that returns
+// a future with a field of a `Copy` type that has a model.
+pub(crate) fn ticket_of(number: Option<u64>) -> Option<Ticket>
+    ensures { result ≡ number }
+{
+    number.map(|number| Ticket { number })
 }
 
 /// A waiting task, with the ticket that its future drew and the amount that it asks for.
