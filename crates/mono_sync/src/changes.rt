@@ -167,7 +167,7 @@ impl<W: Holds<Watch<T>>, T: Drop, C: SharedContext<W>> TaskFuture<C> for Changed
         match ask::<W, T, C>(cx, self.seen, self.ticket) {
             Changing::Waits => Poll::Pending,
             Changing::Joined(ticket) => {
-                self.ticket = Some(ticket.number);
+                self.ticket = Some(ticket.number());
                 Poll::Pending
             }
             Changing::Changed(version) => {

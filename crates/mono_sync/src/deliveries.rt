@@ -157,7 +157,7 @@ impl<W: Holds<Oneshot<T>>, T: Drop, C: SharedContext<W>> TaskFuture<C> for Recv<
         match ask::<W, T, C>(cx, self.ticket) {
             Receiving::Waits => Poll::Pending,
             Receiving::Joined(ticket) => {
-                self.ticket = Some(ticket.number);
+                self.ticket = Some(ticket.number());
                 Poll::Pending
             }
             Receiving::Received(message) => {

@@ -236,7 +236,7 @@ impl<W: Holds<Many<Watch<T>>>, T: Drop, C: SharedContext<W>> TaskFuture<C> for C
         match ask::<W, T, C>(cx, self.key, self.seen, self.ticket) {
             Changing::Waits => Poll::Pending,
             Changing::Joined(ticket) => {
-                self.ticket = Some(ticket.number);
+                self.ticket = Some(ticket.number());
                 Poll::Pending
             }
             Changing::Changed(version) => {

@@ -271,7 +271,7 @@ impl<W: Holds<Many<Oneshot<T>>>, T: Drop, C: SharedContext<W>> TaskFuture<C> for
         match take::<W, T, C>(cx, self.key, self.ticket) {
             Receiving::Waits => Poll::Pending,
             Receiving::Joined(ticket) => {
-                self.ticket = Some(ticket.number);
+                self.ticket = Some(ticket.number());
                 Poll::Pending
             }
             Receiving::Received(message) => {

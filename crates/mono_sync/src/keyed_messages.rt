@@ -407,7 +407,7 @@ impl<W: Holds<Many<Channel<T>>>, T: Drop, C: SharedContext<W>> TaskFuture<C> for
                 Poll::Ready(Err(SendError::Memory(message)))
             }
             Sending::Joined(ticket, message) => {
-                self.ticket = Some(ticket.number);
+                self.ticket = Some(ticket.number());
                 self.message = Some(message);
                 Poll::Pending
             }
@@ -449,7 +449,7 @@ impl<W: Holds<Many<Channel<T>>>, T: Drop, C: SharedContext<W>> TaskFuture<C> for
         match ask_recv::<W, T, C>(cx, self.key, self.ticket) {
             Receiving::Waits => Poll::Pending,
             Receiving::Joined(ticket) => {
-                self.ticket = Some(ticket.number);
+                self.ticket = Some(ticket.number());
                 Poll::Pending
             }
             Receiving::Received(message) => {

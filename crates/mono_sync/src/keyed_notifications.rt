@@ -118,7 +118,7 @@ impl<W: Holds<Many<Notify>>> NotifiedAt<W> {
         match answer {
             Notifying::Waits => Poll::Pending,
             Notifying::Joined(ticket) => {
-                self.ticket = Some(ticket.number);
+                self.ticket = Some(ticket.number());
                 Poll::Pending
             }
             Notifying::Notified => {

@@ -253,7 +253,7 @@ impl<W: Holds<Many<Semaphore>>, C: SharedContext<W>> TaskFuture<C> for AcquireAt
         match ask::<W, C>(cx, self.key, self.ticket) {
             Acquiring::Waits => Poll::Pending,
             Acquiring::Joined(ticket) => {
-                self.ticket = Some(ticket.number);
+                self.ticket = Some(ticket.number());
                 Poll::Pending
             }
             Acquiring::Acquired => {

@@ -278,7 +278,7 @@ impl<W: Holds<Channel<T>>, T: Drop, C: SharedContext<W>> TaskFuture<C> for Send<
                 Poll::Ready(Err(SendError::Memory(message)))
             }
             Sending::Joined(ticket, message) => {
-                self.ticket = Some(ticket.number);
+                self.ticket = Some(ticket.number());
                 self.message = Some(message);
                 Poll::Pending
             }
@@ -320,7 +320,7 @@ impl<W: Holds<Channel<T>>, T: Drop, C: SharedContext<W>> TaskFuture<C> for Recv<
         match ask_recv::<W, T, C>(cx, self.ticket) {
             Receiving::Waits => Poll::Pending,
             Receiving::Joined(ticket) => {
-                self.ticket = Some(ticket.number);
+                self.ticket = Some(ticket.number());
                 Poll::Pending
             }
             Receiving::Received(message) => {

@@ -107,7 +107,7 @@ impl<W: Holds<Notify>> Notified<W> {
         match ask::<W, C>(cx, self.ticket) {
             Notifying::Waits => Poll::Pending,
             Notifying::Joined(ticket) => {
-                self.ticket = Some(ticket.number);
+                self.ticket = Some(ticket.number());
                 Poll::Pending
             }
             Notifying::Notified => {

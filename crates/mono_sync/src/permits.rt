@@ -169,7 +169,7 @@ impl<W: Holds<Semaphore>, C: SharedContext<W>> TaskFuture<C> for Acquire<W> {
         match ask::<W, C>(cx, self.ticket) {
             Acquiring::Waits => Poll::Pending,
             Acquiring::Joined(ticket) => {
-                self.ticket = Some(ticket.number);
+                self.ticket = Some(ticket.number());
                 Poll::Pending
             }
             Acquiring::Acquired => {

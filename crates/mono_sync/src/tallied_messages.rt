@@ -229,7 +229,7 @@ impl<W: Holds<Tallied<T, S>>, T: Drop, S: Tally<T>, C: SharedContext<W>> TaskFut
                 Poll::Ready(Err(SendError::Memory(message)))
             }
             Sending::Joined(ticket, message) => {
-                self.ticket = Some(ticket.number);
+                self.ticket = Some(ticket.number());
                 self.message = Some(message);
                 Poll::Pending
             }
@@ -272,7 +272,7 @@ impl<W: Holds<Tallied<T, S>>, T: Drop, S: Tally<T>, C: SharedContext<W>> TaskFut
         match ask_recv::<W, T, S, C>(cx, self.ticket) {
             Receiving::Waits => Poll::Pending,
             Receiving::Joined(ticket) => {
-                self.ticket = Some(ticket.number);
+                self.ticket = Some(ticket.number());
                 Poll::Pending
             }
             Receiving::Received(message) => {

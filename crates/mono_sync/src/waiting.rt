@@ -104,7 +104,7 @@ impl<W: Holds<Watch<T>>, T: Drop, C: SharedContext<W>, F: Fn(&T) -> bool + Drop>
         match ask::<W, T, C, F>(cx, &self.func, self.ticket) {
             Changing::Waits => Poll::Pending,
             Changing::Joined(ticket) => {
-                self.ticket = Some(ticket.number);
+                self.ticket = Some(ticket.number());
                 Poll::Pending
             }
             Changing::Changed(version) => {

@@ -13,7 +13,7 @@ returns-in-Memory-clause-given g c = rw (← c.in-Some.ensures.value) (record { 
 
 pub returns-in-Joined-clause-polled : goal.returns-in-Joined-clause-polled
 returns-in-Joined-clause-polled g c =
-    (rw (← c.in-Some.ensures.value) (joined_polls (λ x. g.W.Holds.part (g.C.SharedContext.shared x)) g.C.Context.number g.C.Context.work c.args.self.now.key c.args.self.now.ticket c.in-Some.message c.in-Joined.message c.args.cx.now c.ask_send.new.cx c.in-Joined.ticket c.in-Joined.ensures.answer c.in-Joined.ensures.work), refl, tt)
+    (rw c.number.ensures (rw (← c.in-Some.ensures.value) (joined_polls (λ x. g.W.Holds.part (g.C.SharedContext.shared x)) g.C.Context.number g.C.Context.work c.args.self.now.key c.args.self.now.ticket c.in-Some.message c.in-Joined.message c.args.cx.now c.ask_send.new.cx c.in-Joined.ticket c.in-Joined.ensures.answer c.in-Joined.ensures.work)), refl, tt)
 
 pub returns-in-Waits-clause-polled : goal.returns-in-Waits-clause-polled
 returns-in-Waits-clause-polled g c =
