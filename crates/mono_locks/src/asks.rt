@@ -117,7 +117,7 @@ impl<W: SharedState, C: SharedContext<W>, K: Ask<W>> TaskFuture<C> for Asking<W,
         match ask_in::<W, C, K>(cx, &self.call, self.ticket) {
             Asked::Waits => Poll::Pending,
             Asked::Joined(ticket) => {
-                self.ticket = Some(ticket.number);
+                self.ticket = Some(ticket.number());
                 Poll::Pending
             }
             Asked::Got(got) => {

@@ -10,7 +10,7 @@ use std::marker::Model;
 /// The ticket that a future drew at a queue. Only a queue makes one.
 #[derive(Debug, Clone, Copy)]
 pub struct Ticket {
-    pub(crate) number: u64,
+    number: u64,
 }
 
 /// In clauses a ticket is its number.
