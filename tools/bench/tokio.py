@@ -68,8 +68,15 @@ def channels(b):
     words = ("mpsc", "permits", "oneshot", "waits", "threads")
     rows = [(f"{word} {count}", [b.bench, "channels", word, count], [program, word, count], None) for word in words]
     b.table("Channels", "mono_bench channels WORKLOAD N", rows, "tokio")
+    keyed(b, count)
     b.runs = runs
     jobs(b, program)
+
+
+def keyed(b, count):
+    """Prints what the same messages cost over one of many channels, by that of the one channel."""
+    here, there = b.pair([b.bench, "channels", "keyed", count], [b.bench, "channels", "mpsc", count])
+    print(f"\n`mono_bench channels keyed {count}`, by the time of `mpsc`: {here[0] / max(there[0], 1e-6):.2f}.", flush=True)
 
 
 def jobs(b, program):
