@@ -1,5 +1,6 @@
 // The keys of the parts that were borrowed since the runtime last took what they owe.
-ghost use Rattle.std.specs.Prelude.{◌≡◌, ◌≢◌, ◌<◌, ◌-◌, ◌^◌, ◌↔◌, ℕ, [], Some, IfSome, IfNone, IsTrue, length, slice_index_or};
+ghost use Rattle.std.specs.Prelude.{◌≡◌, ◌≢◌, ◌<◌, ◌≤◌, ◌-◌, ◌^◌, ◌↔◌, ℕ, [], Some, MatchBool, IfSome, IfNone, IsTrue, length, slice_index_or};
+ghost use Rattle.std.specs.List.{insert};
 ghost use Rattle.mono_sync.specs.Touched.{Marks, IsMarked, IsAscending, Splits, first_of, left};
 
 use std::alloc::Global;
@@ -46,6 +47,17 @@ impl Touched {
         ensures marked { IsMarked self.new key }
         ensures others { (k : ℕ) → IsMarked self.old k → IsMarked self.new k }
     {
+        // A task mostly borrows the same part again.
+        if !self.is_front(key) {
+            self.note(key);
+        }
+    }
+
+    // Notes a key. It looks for the place of the key in the list.
+    fn note(&mut self, key: u64)
+        ensures marked { IsMarked self.new key }
+        ensures others { (k : ℕ) → IsMarked self.old k → IsMarked self.new k }
+    {
         if key >= self.from {
             return;
         }
@@ -53,7 +65,7 @@ impl Touched {
         if place < self.keys.len() && self.keys[place] == key {
             return;
         }
-        if self.keys.insert(place, key).is_err() {
+        if !put(&mut self.keys, place, key) {
             self.keys.truncate(place);
             self.from = key;
         }
@@ -103,7 +115,9 @@ impl Touched {
     pub(crate) fn clear(&mut self)
         ensures { self.new ≡ record { keys = []; from = 2 ^ 64 - 1 } }
     {
-        self.keys.clear();
+        if self.keys.len() > 0 {
+            self.keys.clear();
+        }
         if self.keys.capacity() > KEPT_PLACES {
             self.keys.shrink_to_fit();
         }
@@ -116,5 +130,19 @@ fn place_of(keys: &VecDeque<u64>, key: u64) -> usize
     requires ascending { IsAscending keys.now.items }
     ensures { Splits keys.now.items result key }
 {
+    if keys.is_empty() {
+        return 0;
+    }
     keys.partition_point(|noted| *noted < key)
+}
+
+// Adds a key at a place of the list. Returns false and leaves the list if out of memory.
+fn put(keys: &mut VecDeque<u64>, place: usize, key: u64) -> bool
+    requires { place ≤ length keys.old.items }
+    ensures { MatchBool result (keys.new.items ≡ insert keys.old.items place key) (keys.new.items ≡ keys.old.items) }
+{
+    if place == keys.len() {
+        return keys.push_back(key).is_ok();
+    }
+    keys.insert(place, key).is_ok()
 }

@@ -1,9 +1,8 @@
-use Rattle.std.proofs.Common.{◌≡◌, ◌≤◌, ◌<◌, ℕ, length, true, subst, arith, rules}
-use Rattle.std.specs.Prelude.{slice_index_or, nat_lt}
+use Rattle.std.proofs.Common.{◌≤◌, subst, arith, rules}
+use Rattle.std.specs.Prelude.{nat_lt}
 use Rattle.std.proofs.lemmas.Bool.{ltb-true, ltb-false, lt-ltb}
 use Rattle.std.proofs.lemmas.List.Sorted.{IsPartitionPoint-from_clause}
 use Rattle.std.specs.List.Sorted.{IsPartitionedBy}
-use Rattle.mono_sync.specs.Touched.{IsAscending}
 use Rattle.mono_sync.proofs.touched.place_of.Goals as goal
 
 pub returns : goal.returns
