@@ -102,6 +102,7 @@ impl<X: SharedState> Many<X> {
     }
 
     /// Returns the part with this key, or `None` if it was removed or never made.
+    #[inline(always)]
     pub fn get(&self, key: u64) -> Option<&X>
         ensures { option_copied result ≡ value_at self.now key }
     {
@@ -113,13 +114,15 @@ impl<X: SharedState> Many<X> {
 
     /// Returns the part with this key, to be read and changed. The last value under the reference is the part afterwards,
     /// and no other part changes (`writes_back`). The runtime takes what it owes after the turn.
+    #[inline(always)]
     pub fn part_mut(&mut self, key: u64) -> &mut X
         requires { is_some (value_at self.old key) ≡ true }
         ensures* writes_back { sem 𝓛 (many_lends X.row X.SharedState self.entry key result) }
         ensures value { value_at self.old key ≡ Some result.now }
     {
+        let place = self.places.value_mut(key);
         self.touched.mark(key);
-        in_place(self.places.value_mut(key))
+        in_place(place)
     }
 }
 

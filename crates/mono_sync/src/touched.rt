@@ -43,6 +43,7 @@ impl Touched {
     }
 
     /// Notes a key. It takes memory, or else notes all greater keys, too.
+    #[inline(always)]
     pub(crate) fn mark(&mut self, key: u64)
         ensures marked { IsMarked self.new key }
         ensures others { (k : ℕ) → IsMarked self.old k → IsMarked self.new k }
@@ -105,6 +106,7 @@ impl Touched {
     }
 
     // Returns whether the key stands first in the list.
+    #[inline(always)]
     fn is_front(&self, key: u64) -> bool
         ensures { IsTrue result ↔ (0 < length self.now.keys) × (slice_index_or self.now.keys 0 0 ≡ key) }
     {

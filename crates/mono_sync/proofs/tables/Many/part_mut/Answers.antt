@@ -12,6 +12,6 @@ returns g c = (
   (refl, λ w. parts_with c.self.inside.places c.args.key w ∙ ap (λ xs. with_value xs c.args.key w) c.self.view_is),
   record {
     writes_back = tt;
-    value = ap (λ xs. value_at xs c.args.key) (sym c.self.view_is) ∙ part_at c.self.inside.places c.args.key ∙ ap part_in (c.value_mut.ensures.value ∙ ap (λ x. Some x) c.in_place.ensures.value);
+    value = ap (λ xs. value_at xs c.args.key) (sym c.self.view_is) ∙ part_at c.self.inside.places c.args.key ∙ ap part_in (c.value_mut-place.ensures.value ∙ ap (λ x. Some x) c.in_place.ensures.value);
   },
 )
