@@ -1,6 +1,7 @@
 // The whole program, over its streams.
 ghost use Rattle.std.specs.Prelude.{◌≡◌, ◌≢◌, ◌⊎◌, IfErr, IfNone, IfOk, IfSome, drop, false, map, string_bytes};
 ghost use Rattle.std.specs.IoError.{error_kind};
+ghost use Rattle.std.specs.Process.{exit_status};
 ghost use Rattle.std.specs.declared.io.ErrorKind.TheVariants.{OutOfMemory};
 ghost use Rattle.lease_server.specs.Pages.{Shows, page_text};
 ghost use Rattle.lease_server.specs.Calls.{AsksNoPage, AsksPage, ExitsWith, Refuses, ServesWords, view_of};
@@ -15,14 +16,23 @@ use crate::status::{self, code};
 use mono_rt::Host;
 use mono_text::{Sink, Source};
 use std::alloc::Global;
+use std::process::ExitCode;
 use std::{format, io};
 
-/// What a call returns: the number with which the program exits, the source and the sink.
+/// What the program returns: the exit code with which `main` ends, the source and the sink.
 #[derive(Drop)]
 pub struct Exited<S, K> {
-    pub code: u8,
+    pub code: ExitCode,
     pub source: S,
     pub sink: K,
+}
+
+// What a call returns: the number with which the program exits, the source and the sink.
+#[derive(Drop)]
+struct Called<S, K> {
+    code: u8,
+    source: S,
+    sink: K,
 }
 
 // Returns the page for which the words ask.
@@ -37,7 +47,7 @@ fn page_of_words(words: &[String]) -> Option<Page>
 }
 
 // Makes the call of these words, those after the program's name.
-fn call<R, S, K>(rt: R, alloc: Global, words: &[String], source: S, sink: K) -> Exited<S, K>
+fn call<R, S, K>(rt: R, alloc: Global, words: &[String], source: S, sink: K) -> Called<S, K>
 where
     R: Host + Copy + Send + 'static,
     S: Source + Drop,
@@ -51,7 +61,7 @@ where
 }
 
 // Serves with the settings that the words say, or refuses them.
-fn serve_words<R, S, K>(rt: R, alloc: Global, words: &[String], source: S, sink: K) -> Exited<S, K>
+fn serve_words<R, S, K>(rt: R, alloc: Global, words: &[String], source: S, sink: K) -> Called<S, K>
 where
     R: Host + Copy + Send + 'static,
     S: Source + Drop,
@@ -62,13 +72,13 @@ where
     match settings_of(words) {
         Some(settings) => {
             let served = serve(rt, alloc, &settings, source, sink);
-            Exited {
+            Called {
                 code: code(served.status),
                 source: served.source,
                 sink: served.sink,
             }
         }
-        None => Exited {
+        None => Called {
             code: status::USAGE,
             source,
             sink,
@@ -77,13 +87,13 @@ where
 }
 
 // Shows a page.
-fn show<S, K: Sink>(page: Page, source: S, sink: K) -> Exited<S, K>
+fn show<S, K: Sink>(page: Page, source: S, sink: K) -> Called<S, K>
     ensures shows { Shows (page_text page) (K.written sink) (K.written result.sink) (K.faults sink) (K.faults result.sink) result.code }
     ensures source { result.source ≡ source }
 {
     let mut sink = sink;
     let status = write_page(&mut sink, page);
-    Exited {
+    Called {
         code: code(status),
         source,
         sink,
@@ -122,20 +132,24 @@ where
     S: Source + Explains + Drop,
     K: Sink + Explains + Drop + Send + 'static,
     E: Sink,
-    ensures exits { ExitsWith S.left S.faults K.written K.faults (map string_bytes words.now) source sink result.source result.sink result.code }
-    ensures says { Says waits result.code (K.closed result.sink) (E.written causes.old) (E.written causes.new) (E.faults causes.old) (E.faults causes.new) }
+    ensures exits { ExitsWith S.left S.faults K.written K.faults (map string_bytes words.now) source sink result.source result.sink (exit_status result.code) }
+    ensures says { Says waits (exit_status result.code) (K.closed result.sink) (E.written causes.old) (E.written causes.new) (E.faults causes.old) (E.faults causes.new) }
 {
     notice(waits, words, causes);
-    let exited = call(rt, alloc, words, source, sink);
+    let called = call(rt, alloc, words, source, sink);
     tell_end(
         alloc,
         words,
-        exited.code,
-        &exited.source,
-        &exited.sink,
+        called.code,
+        &called.source,
+        &called.sink,
         causes,
     );
-    exited
+    Exited {
+        code: ExitCode::from(called.code),
+        source: called.source,
+        sink: called.sink,
+    }
 }
 
 // Returns the number for words that the system does not give, and says so.
@@ -154,9 +168,9 @@ fn unread_code<E: Sink>(alloc: Global, error: &io::Error, causes: &mut E) -> u8
     }
 }
 
-/// Does all that the program does, and returns the number with which it exits, the source and the sink. `called` are the
-/// words of its call, with its name first. `waits` says whether a person is at the terminal. Replies and pages go to the
-/// sink, and each cause to `causes`.
+/// Does all that the program does, and returns the exit code with which `main` ends, the source and the sink. `called` are
+/// the words of its call, with its name first. `waits` says whether a person is at the terminal. Replies and pages go to
+/// the sink, and each cause to `causes`.
 ///
 /// It makes one of three calls (`Exits`, `specs/Calls`): it shows the page for which the words ask, serves with the settings
 /// that they say, or refuses them with 2. Words that the system does not give exit with 6 or 2 (`memory`, `other`), and
@@ -178,17 +192,17 @@ where
     S: Source + Explains + Drop,
     K: Sink + Explains + Drop + Send + 'static,
     E: Sink,
-    ensures exits { IfOk called (λ all. ExitsWith S.left S.faults K.written K.faults (map string_bytes (drop 1 all.items)) source sink result.source result.sink result.code) }
-    ensures says { IfOk called (λ _. Says waits result.code (K.closed result.sink) (E.written causes.old) (E.written causes.new) (E.faults causes.old) (E.faults causes.new)) }
-    ensures memory { IfErr called (λ error. error_kind error ≡ OutOfMemory → result.code ≡ 6) }
-    ensures other { IfErr called (λ error. error_kind error ≢ OutOfMemory → result.code ≡ 2) }
+    ensures exits { IfOk called (λ all. ExitsWith S.left S.faults K.written K.faults (map string_bytes (drop 1 all.items)) source sink result.source result.sink (exit_status result.code)) }
+    ensures says { IfOk called (λ _. Says waits (exit_status result.code) (K.closed result.sink) (E.written causes.old) (E.written causes.new) (E.faults causes.old) (E.faults causes.new)) }
+    ensures memory { IfErr called (λ error. error_kind error ≡ OutOfMemory → exit_status result.code ≡ 6) }
+    ensures other { IfErr called (λ error. error_kind error ≢ OutOfMemory → exit_status result.code ≡ 2) }
     ensures told { IfErr called (λ _. TellsCause (E.written causes.old) (E.written causes.new) (E.faults causes.old) (E.faults causes.new)) }
     ensures untouched { IfErr called (λ _. (result.source ≡ source) × (result.sink ≡ sink)) }
 {
     match called {
         Ok(all) => carry_out(rt, alloc, words_after(&all), waits, source, sink, causes),
         Err(error) => Exited {
-            code: unread_code(alloc, &error, causes),
+            code: ExitCode::from(unread_code(alloc, &error, causes)),
             source,
             sink,
         },

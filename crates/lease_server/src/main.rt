@@ -48,15 +48,14 @@ fn words_of(rt: &HostRuntime) -> io::Result<Vec<String>> {
 fn main(rt: HostRuntime) -> ExitCode {
     let stdin = rt.stdin();
     let waits = stdin.is_terminal();
-    let mut causes = WriteSink::new(rt.stderr());
-    let exited = exits(
+    exits(
         rt,
         rt.alloc(),
         words_of(&rt),
         waits,
         StdinSource::new(stdin),
         StdoutSink::new(rt.stdout()),
-        &mut causes,
-    );
-    ExitCode::from(exited.code)
+        &mut WriteSink::new(rt.stderr()),
+    )
+    .code
 }
