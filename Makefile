@@ -29,6 +29,8 @@
 #                    generated load for ten seconds, checks each reply, and then does so under faults
 #   make server-quick checks the checker of the lease server, and by it the server that `make test` has built, in a minute; it
 #                    does nothing without python3
+#   make server-calls compares the causes and statuses of the calls in tools/server/calls.txt, by the server that `make test`
+#                    has built, in a second
 #   make server-bench measures the lease server beside the same server on tokio; needs cargo and librust-tokio-dev
 #   make view-test   opens journals in headless Chromium by tools/view.py, as a user does: the stuck task of a lost wake is
 #                    found, and 100,000 lines open and move as they should; needs chromium
@@ -42,7 +44,7 @@ SECONDS = 60
 SIZE =
 EVENTS = 100000000
 
-.PHONY: help run build has-rt has-rustc test compare-examples examples examples-quick pages soak soak-threads year try bench planted gate-times build-server server server-quick server-bench view-test
+.PHONY: help run build has-rt has-rustc test compare-examples examples examples-quick pages soak soak-threads year try bench planted gate-times build-server server server-quick compare-calls server-calls server-bench view-test
 
 help:
 	@sed -n 's/^#   //p' Makefile
@@ -64,7 +66,7 @@ test: has-rt
 	@! command -v python3 > /dev/null || { python3 tools/sections.py && python3 tools/recipes.py && \
 	    python3 tools/calls.py --check && python3 tools/cookbook.py --check; }
 	rt ci
-	@said=$$($(MAKE) --no-print-directory examples-quick) || { echo "$$said"; exit 1; }
+	@said=$$($(MAKE) --no-print-directory examples-quick server-calls) || { echo "$$said"; exit 1; }
 
 compare-examples:
 	@made=$$(mktemp -d); trap 'rm -r $$made' EXIT; for input in examples/*.events; do \
@@ -140,6 +142,18 @@ server-quick:
 	@! command -v python3 > /dev/null || python3 tools/server/check_test.py
 	@! command -v python3 > /dev/null || [ ! -x $(BUILT) ] || { python3 tools/server/run.py $(BUILT) 7 && \
 	    python3 tools/server/faults.py $(BUILT) hostile quiet reader end failed; }
+
+# Each call of the stored lines is made anew.
+CALLS = tools/server/calls.txt
+
+compare-calls:
+	@lease_server() { $(BUILT) "$$@"; }; sed -n 's/^\$$ //p' $(CALLS) | while read -r call; do printf '$$ %s\n' "$$call"; \
+	    status=0; (eval "$$call") < /dev/null 2>&1 || status=$$?; echo "status $$status"; \
+	done | diff $(CALLS) - || { echo "$(CALLS): calls with other causes or statuses"; exit 1; }; \
+	echo 'each call has its stored cause and exit status'
+
+server-calls:
+	@[ ! -x $(BUILT) ] || $(MAKE) --no-print-directory compare-calls
 
 server-bench: build-server
 	tools/server/build_peer.sh bin
