@@ -60,7 +60,7 @@ impl Block {
     }
 
     /// Returns the rest.
-    #[inline]
+    #[inline(always)]
     pub fn rest(&self) -> &[u8]
         ensures { result.now ≡ rest_of self.now }
     {
@@ -68,7 +68,7 @@ impl Block {
     }
 
     /// Takes this many bytes from the front of the rest.
-    #[inline]
+    #[inline(always)]
     pub fn skip(&mut self, count: usize)
         requires { count ≤ length (rest_of self.old) }
         ensures rest { rest_of self.new ≡ drop count (rest_of self.old) }

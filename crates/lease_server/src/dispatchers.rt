@@ -64,7 +64,7 @@ fn have_sent_all(lanes: &[Lane]) -> bool
 }
 
 // Gives the lane of its core a request. It fails if out of memory, or without a lane: then each lane was given the same.
-#[inline]
+#[inline(always)]
 fn route(lanes: &mut [Lane], request: Request) -> Result<(), AllocError>
     ensures ways { HaveSameWays lanes.old lanes.new }
     ensures ok { OnOk result ((asked : List (Option Request)) → AreRouted asked lanes.old → AreRouted (asked ++ Some request ∷ []) lanes.new) }
@@ -156,7 +156,7 @@ impl Dispatcher {
     }
 
     /// Returns the number of the next line. It fails if no number is left.
-    #[inline]
+    #[inline(always)]
     pub fn next(&self) -> Result<u64, AllocError>
         ensures { IfOk result (λ number. number ≡ self.now.last + 1) }
     {
@@ -166,7 +166,7 @@ impl Dispatcher {
     /// Takes the next line: gives its request to the lane of its core, or refuses it if it asks nothing.
     ///
     /// If out of memory, or without a core, nothing was given.
-    #[inline]
+    #[inline(always)]
     pub fn take(&mut self, number: u64, found: Option<Request>) -> Result<(), AllocError>
         requires { number ≡ self.old.last + 1 }
         ensures ways { KeepsWays self.old self.new }
@@ -192,6 +192,7 @@ impl Dispatcher {
     }
 
     // Gives the request of the next line to the lane of its core.
+    #[inline(always)]
     fn give(&mut self, number: u64, request: Request) -> Result<(), AllocError>
         requires { number ≡ self.old.last + 1 }
         ensures ways { KeepsWays self.old self.new }

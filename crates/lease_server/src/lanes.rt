@@ -56,7 +56,7 @@ impl Lane {
     }
 
     /// Collects a request. If out of memory, the lane stays.
-    #[inline]
+    #[inline(always)]
     pub fn take(&mut self, request: Request) -> Result<(), AllocError>
         ensures same { Stays self.old.outlet.sender self.new.outlet.sender }
         ensures ok { OnOk result (given self.new ≡ given self.old ++ request ∷ []) }

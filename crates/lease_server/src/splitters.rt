@@ -53,7 +53,7 @@ impl Splitter {
     }
 
     // Returns the length of the line at the front of the block's rest, if it has a line feed.
-    #[inline]
+    #[inline(always)]
     fn line_length(&self) -> Option<usize>
         ensures found { IfSome result (λ count. BeginsLine count (rest_of self.now.block)) }
         ensures none { IfNone result (HasNoFeed (rest_of self.now.block)) }
@@ -63,7 +63,7 @@ impl Splitter {
 
     // Returns the request of the line at the front, if it is one: the bytes that were dropped of it, and this many of
     // the block's rest.
-    #[inline]
+    #[inline(always)]
     fn request_at(&self, number: u64, count: usize) -> Option<Request>
         requires { count ≤ length (rest_of self.now.block) }
         ensures { (dropped : List ℕ) → IsDropped self.now.is_long dropped → MatchOption result (SpellsNone (dropped ++ take count (rest_of self.now.block))) (λ request. Spells number (dropped ++ take count (rest_of self.now.block)) request) }
@@ -76,7 +76,7 @@ impl Splitter {
 
     // Takes the line at the front of the block's rest, which has this length, and its line feed.
     #[tactic(auto, using(crate::proofs::WayLemmas::keeps_itself))]
-    #[inline]
+    #[inline(always)]
     fn take_line(&mut self, count: usize) -> Result<(), AllocError>
         requires { BeginsLine count (rest_of self.old.block) }
         ensures ways { KeepsWays self.old.dispatcher self.new.dispatcher }
