@@ -10,5 +10,5 @@ returns-clause-says g c =
       middle = g.E.Sink.written c.notice.new.causes;
       middle_faults = g.E.Sink.faults c.notice.new.causes;
       noticed = c.notice.ensures.noticed;
-      told = c.tell_end.ensures;
+      told = rw c.from.ensures c.tell_end.ensures;
     }
