@@ -76,7 +76,8 @@ fn many_tasks_wait_to_send(rt: HostRuntime) {
     let mut waits = true;
     for task in 0..MANY {
         let answer = channel.send(None, 10, task);
-        waits = waits & matches!(answer, Sending::Joined(had, 10) if had.number() == task);
+        waits = waits
+            & matches!(answer, Sending::Joined(had, back) if back == 10 && had.number() == task);
     }
     assert!(rt; waits);
     channel.close();

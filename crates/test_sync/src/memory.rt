@@ -44,7 +44,7 @@ fn sender(channel: &mut Channel<u64>) -> Option<Ticket> {
         answer = channel.send(None, 10, 1);
     }
     match answer {
-        Sending::Joined(ticket, 10) => Some(ticket),
+        Sending::Joined(ticket, back) if back == 10 => Some(ticket),
         _ => None,
     }
 }

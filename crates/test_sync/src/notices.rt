@@ -50,7 +50,8 @@ fn two_at_once(rt: HostRuntime) {
 fn a_ticket_of_another_notice(rt: HostRuntime) {
     let mut other = Notify::new(rt.alloc());
     let mut notify = Notify::new(rt.alloc());
-    let ticket = drawn(&mut other, 1);
-    notify.give_up(ticket, 1);
-    assert!(rt; !has(&mut notify, ticket, 1));
+    let given_up = drawn(&mut other, 1);
+    let asks = drawn(&mut other, 1);
+    notify.give_up(given_up, 1);
+    assert!(rt; !has(&mut notify, asks, 1));
 }

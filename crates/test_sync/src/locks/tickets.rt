@@ -16,3 +16,11 @@ pub(crate) fn number_of(ticket: Option<Ticket>) -> Option<u64> {
         Some(ticket) => Some(ticket.number()),
     }
 }
+
+/// Returns whether there is a ticket, and it has this number.
+pub(crate) fn has_number(ticket: &Option<Ticket>, number: u64) -> bool {
+    match ticket {
+        None => false,
+        Some(ticket) => ticket.number() == number,
+    }
+}
