@@ -1,0 +1,16 @@
+//! Tokens that cancel, tasks that can be aborted, and sets of tasks, for the tasks of one runtime.
+#![tactic(auto)]
+
+pub mod acts;
+mod asks;
+pub mod laws;
+mod nodes;
+mod token_calls;
+pub mod tokens;
+mod until;
+mod waiters;
+
+pub use asks::{Ask, Asking, ask_for};
+pub use nodes::Token;
+pub use until::{Aborted, RunUntil, UntilCancelled, run_until, run_until_cancelled};
+pub use waiters::Asked;
