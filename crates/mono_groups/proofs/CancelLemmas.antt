@@ -1,6 +1,5 @@
 -- A token and all below it are cancelled, in the order of their keys.
-use Rattle.std.specs.Prelude.{⊤}
-use Rattle.std.proofs.Common.{◌≡◌, ◌≢◌, ◌⊎◌, ◌<◌, ◌≤◌, ◌+◌, ℕ, zero, suc, Bool, true, false, MatchBool, List, [], ◌∷◌, length, Option, Some, None, refl, sym, ap, subst, ◌∙◌, inl, inr, arith}
+use Rattle.std.proofs.Common.{◌≡◌, ◌≢◌, ◌⊎◌, ◌<◌, ◌≤◌, ◌+◌, ℕ, suc, Bool, true, false, MatchBool, List, [], ◌∷◌, length, Option, Some, None, refl, sym, ap, subst, ◌∙◌, inl, inr, arith}
 use Rattle.std.proofs.lemmas.Bool.{cases_lt, cases_eq}
 use Rattle.std.proofs.lemmas.List.{get_or-set_other, get_or_past, length-set}
 use Rattle.mono_model.specs.Table.{Table, value_at, next_number, with_value}
@@ -10,9 +9,9 @@ use Rattle.mono_groups.specs.declared.nodes.Token.{Token}
 use Rattle.mono_groups.specs.Nodes.{listed_by, owed_by, waiting_in}
 use Rattle.mono_groups.specs.Tokens.{cancelled_in, is_cancelled, parent_in, parent_of, follows, Climbs, IsBelow, IsGrown, IsKept, Grows, CancelsIf, Cancels, Marks, Follows}
 use Rattle.mono_groups.specs.Waiters.{lists_at, tasks_of}
-use Rattle.mono_groups.proofs.TableLemmas.{same_some, value_set}
+use Rattle.mono_groups.proofs.TableLemmas.{value_set}
 use Rattle.mono_groups.proofs.NodeLemmas.{owed_nil, live_nil, cancelled_all}
-use Rattle.mono_groups.proofs.TokenLemmas.{true-false, live_is_some}
+use Rattle.mono_groups.proofs.TokenLemmas.{true-false}
 
 false-true : false ≡ true → ⊥
 false-true e = cc

@@ -1,20 +1,19 @@
 -- The laws of tokens.
 use Rattle.std.specs.Prelude.{⊤}
-use Rattle.std.proofs.Common.{◌≡◌, ◌==◌, ◌&&◌, ◌||◌, ◌⊎◌, ◌<◌, ◌≤◌, ℕ, zero, suc, Bool, true, false, not, cond, MatchBool, List, [], ◌∷◌, ◌++◌, length, Option, Some, None, refl, sym, ap, subst, ◌∙◌, inl, inr, arith, eq-eqb}
+use Rattle.std.proofs.Common.{◌≡◌, ◌==◌, ◌&&◌, ◌||◌, ◌<◌, ◌≤◌, ℕ, zero, suc, Bool, true, false, not, cond, MatchBool, List, [], ◌∷◌, ◌++◌, Option, Some, None, refl, sym, ap, ◌∙◌, inl, inr, arith, eq-eqb}
 use Rattle.std.specs.List.{list_any}
 use Rattle.mono_model.specs.Table.{Table, value_at, with_value}
-use Rattle.mono_sync.specs.Many.{LeadsEach, LeadsPart, lists_in, lists_each, tasks_in, tasks_each}
+use Rattle.mono_sync.specs.Many.{LeadsPart, lists_in, lists_each, tasks_in, tasks_each}
 use Rattle.mono_sync.specs.ManyLeads.{each_some, each_owes}
 use Rattle.mono_groups.specs.declared.waiters.Asked.{Asked}
 use Rattle.mono_groups.specs.declared.waiters.Asked.TheVariants as asked
 use Rattle.mono_groups.specs.declared.waiters.Waiter.{Waiter}
-use Rattle.mono_groups.specs.declared.waiters.Waiters.{Waiters}
 use Rattle.mono_groups.specs.declared.nodes.Token.{Token}
 use Rattle.mono_groups.specs.Listed.{node_some}
 use Rattle.mono_groups.specs.Waiters.{waits_at, lists_at, without, Leaves, Stands}
-use Rattle.mono_groups.specs.Nodes.{listed_by, owed_by, waiting_in, AsksNode}
+use Rattle.mono_groups.specs.Nodes.{listed_by, owed_by, waiting_in}
 use Rattle.mono_groups.specs.Tokens.{cancelled_in, is_cancelled, parent_of, Climbs, IsBelow, IsGrown, Grows, CancelsIf}
-use Rattle.mono_groups.specs.TokenLaws.{LeadsTo, StaysCancelled, BelowIsCancelled, OthersStay, ParentIsAbove, NoTokenLiesIdle, CancelOwesAll, PendingIsListed, GivenUpIsGone}
+use Rattle.mono_groups.specs.TokenLaws.{StaysCancelled, BelowIsCancelled, OthersStay, ParentIsAbove, NoTokenLiesIdle, CancelOwesAll, PendingIsListed, GivenUpIsGone}
 use Rattle.mono_groups.proofs.WaiterLemmas.{false-true}
 use Rattle.mono_groups.proofs.TableLemmas.{value_set}
 use Rattle.mono_groups.proofs.NodeLemmas.{cancelled_all}

@@ -1,10 +1,9 @@
 -- Whom one token keeps, and whom it hands out.
 use Rattle.std.specs.Prelude.{⊤}
-use Rattle.std.proofs.Common.{◌≡◌, ℕ, Bool, true, false, cond, MatchBool, List, [], ◌∷◌, Option, Some, None, refl, sym, ap, subst, ◌∙◌}
+use Rattle.std.proofs.Common.{◌≡◌, ℕ, Bool, true, false, cond, MatchBool, List, [], ◌∷◌, Option, Some, refl, sym, ap, subst, ◌∙◌}
 use Rattle.mono_task.specs.Owed.{Keeps}
 use Rattle.mono_groups.specs.declared.waiters.Asked.{Asked}
 use Rattle.mono_groups.specs.declared.waiters.Asked.TheVariants as asked
-use Rattle.mono_groups.specs.declared.waiters.Waiter.{Waiter}
 use Rattle.mono_groups.specs.declared.nodes.Token.{Token}
 use Rattle.mono_groups.specs.Waiters.{tasks_of, Leaves, Stands}
 use Rattle.mono_groups.specs.Nodes.{listed_by, owed_by, waiting_in, AsksNode, LeavesNode, PaysNode}

@@ -1,11 +1,11 @@
 -- Tokens after a call: which are cancelled, whom they keep and owe.
 use Rattle.std.specs.Prelude.{⊤, Result, Ok, Err, slice_set}
 use Rattle.std.specs.declared.alloc.AllocError.{AllocError}
-use Rattle.std.proofs.Common.{◌≡◌, ◌≢◌, ◌⊎◌, ◌<◌, ◌≤◌, ◌+◌, ℕ, zero, suc, Bool, true, false, MatchBool, List, [], ◌∷◌, ◌++◌, length, Option, Some, None, refl, sym, ap, subst, ◌∙◌, inl, inr, arith}
+use Rattle.std.proofs.Common.{◌≡◌, ◌<◌, ℕ, zero, suc, true, false, List, [], ◌∷◌, length, Option, Some, None, refl, sym, ap, subst, ◌∙◌, inl, inr, arith}
 use Rattle.std.proofs.lemmas.List.{set-get_or}
 use Rattle.mono_model.specs.Table.{Table, value_at, next_number, with_next, with_value, without}
-use Rattle.mono_task.specs.Owed.{Keeps, Hands}
-use Rattle.mono_sync.specs.Many.{LeadsPart, LeadsEach, NoneBelow, lists_in, lists_each, tasks_in, tasks_each}
+use Rattle.mono_task.specs.Owed.{Keeps}
+use Rattle.mono_sync.specs.Many.{LeadsEach, lists_each, tasks_in}
 use Rattle.mono_sync.specs.ManyLeads as each
 use Rattle.mono_sync.specs.KeyedCalls.{at_leads, at_keeps}
 use Rattle.mono_groups.specs.declared.waiters.Asked.{Asked}
@@ -15,10 +15,9 @@ use Rattle.mono_groups.specs.declared.tokens.RemoveError.{RemoveError}
 use Rattle.mono_groups.specs.declared.tokens.RemoveError.TheVariants.{Missing, Live, InUse}
 use Rattle.mono_groups.specs.Listed.{node_some}
 use Rattle.mono_groups.specs.Nodes.{listed_by, owed_by, waiting_in, SameNode, AsksNode, LeavesNode, PaysNode}
-use Rattle.mono_groups.specs.Tokens.{cancelled_in, is_cancelled, parent_in, parent_of, follows, Climbs, IsBelow, IsGrown, IsKept, Grows, grows_itself, CancelsIf, Cancels, Awaits, GivesUp, Makes, PaysAt, Removes}
-use Rattle.mono_groups.specs.Waiters.{lists_at}
-use Rattle.mono_groups.proofs.TableLemmas.{same_some, pairs_set, value_set, at_next, some_next}
-use Rattle.mono_groups.proofs.NodeLemmas.{asks_keeps, asks_none, leaves_node_keeps, leaves_node_none, pays_first, pays_keeps, owed_nil, live_nil, cancelled_all}
+use Rattle.mono_groups.specs.Tokens.{cancelled_in, is_cancelled, parent_in, follows, IsGrown, IsKept, Grows, grows_itself, Awaits, GivesUp, Makes, PaysAt, Removes}
+use Rattle.mono_groups.proofs.TableLemmas.{pairs_set, at_next, some_next}
+use Rattle.mono_groups.proofs.NodeLemmas.{asks_keeps, asks_none, leaves_node_keeps, leaves_node_none, owed_nil}
 
 pub true-false : true ≡ false → ⊥
 true-false e = cc

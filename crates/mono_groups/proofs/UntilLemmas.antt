@@ -1,5 +1,5 @@
 -- What a future that runs until a signal gives.
-use Rattle.std.proofs.Common.{◌≡◌, Option}
+use Rattle.std.proofs.Common.{Option}
 use Rattle.std.specs.Prelude.{⊤, Result, Ok, Err}
 use Rattle.std.specs.declared.alloc.AllocError.{AllocError}
 use Rattle.mono_forms.specs.EitherRaces.{EitherRaceGives}

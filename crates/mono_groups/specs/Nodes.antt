@@ -1,6 +1,5 @@
 -- One token, and the effect of its calls.
-use Rattle.std.specs.Prelude.{⊤, Bool, true, false, ◌≡◌, if◌then◌else◌, MatchBool, ℕ, List, [], ◌∷◌, Option, Some, None}
-use Rattle.mono_task.specs.Owed.{Hands}
+use Rattle.std.specs.Prelude.{⊤, Bool, true, ◌≡◌, if◌then◌else◌, MatchBool, ℕ, List, [], Option, Some, None}
 use Rattle.mono_groups.specs.declared.waiters.Asked.{Asked}
 use Rattle.mono_groups.specs.declared.waiters.Asked.TheVariants as asked
 use Rattle.mono_groups.specs.declared.waiters.Waiter.{Waiter}

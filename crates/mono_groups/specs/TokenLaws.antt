@@ -1,10 +1,9 @@
 -- Laws that hold over any calls of tokens.
-use Rattle.std.specs.Prelude.{⊤, true, false, ◌≡◌, ◌<◌, ◌⊎◌, ℕ, List, [], ◌∷◌, Option, Some, None}
+use Rattle.std.specs.Prelude.{true, false, ◌≡◌, ◌<◌, ℕ, List, [], ◌∷◌, Option, Some, None}
 use Rattle.std.specs.List.{list_any}
 use Rattle.std.specs.Prelude.{◌==◌}
-use Rattle.mono_model.specs.Table.{Table, value_at, next_number}
+use Rattle.mono_model.specs.Table.{Table, next_number}
 use Rattle.mono_sync.specs.Many.{LeadsEach, lists_each, tasks_each}
-use Rattle.mono_groups.specs.declared.waiters.Asked.{Asked}
 use Rattle.mono_groups.specs.declared.waiters.Asked.TheVariants as asked
 use Rattle.mono_groups.specs.declared.nodes.Token.{Token}
 use Rattle.mono_groups.specs.Nodes.{listed_by, owed_by, waiting_in}

@@ -3,7 +3,7 @@ use Rattle.std.specs.Prelude.{⊤, Bool, true, false, ◌≡◌, ◌<◌, ◌⊎
 use Rattle.std.specs.declared.alloc.AllocError.{AllocError}
 use Rattle.std.proofs.Common.{refl, ◌∙◌}
 use Rattle.mono_model.specs.Table.{Table, value_at, next_number, with_next, with_value, without}
-use Rattle.mono_sync.specs.Many.{At, IsIdle, LeadsEach, NoneBelow, tasks_in}
+use Rattle.mono_sync.specs.Many.{At, LeadsEach, NoneBelow, tasks_in}
 use Rattle.mono_sync.specs.ManyLeads as each
 use Rattle.mono_sync.specs.KeyedCalls.{AtOr}
 use Rattle.mono_groups.specs.declared.waiters.Asked.{Asked}

@@ -1,4 +1,4 @@
-use Rattle.std.proofs.Common.{◌≤◌, arith, subst, sym, ◌∙◌}
+use Rattle.std.proofs.Common.{arith, subst, sym, ◌∙◌}
 use Rattle.mono_sync.specs.Many.{LeadsEach}
 use Rattle.mono_groups.specs.Nodes.{owed_by, waiting_in}
 use Rattle.mono_groups.specs.Tokens.{Cancels, Grows, leads_itself}
