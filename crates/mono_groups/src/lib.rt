@@ -1,4 +1,4 @@
-//! Tokens that cancel, tasks that can be aborted, and sets of tasks, for the tasks of one runtime.
+//! Tokens that cancel, and tasks that can be aborted, for the tasks of one runtime.
 #![tactic(auto)]
 
 pub mod acts;
