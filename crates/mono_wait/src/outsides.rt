@@ -25,8 +25,6 @@ pub trait Outside<U: Unpark>: Drop {
 pub struct FromOutside<X, U> {
     /// What the future waits for.
     pub outside: X,
-    // The task that waits, after a pending poll.
-    pub(crate) task: u64,
     pub(crate) has_answered: bool,
     unpark: PhantomData<U>,
 }
@@ -39,7 +37,6 @@ impl<X, U> FromOutside<X, U> {
     {
         FromOutside {
             outside,
-            task: 0,
             has_answered: false,
             unpark: PhantomData,
         }
@@ -52,7 +49,7 @@ impl<U: Unpark, X: Outside<U>, C: RemoteContext<U>> TaskFuture<C> for FromOutsid
 
     ghost is_spent = { λ f. f.has_answered };
 
-    ghost polls = { λ f c r g d. C.reaches c d × OnPending r ((C.has_handed_out d ≡ true) × (g.task ≡ C.number c)) × OnReady r (g.has_answered ≡ true) };
+    ghost polls = { λ f c r g d. C.reaches c d × OnPending r (C.has_handed_out d ≡ true) × OnReady r (g.has_answered ≡ true) };
 
     ghost cancels = { λ f c d. d ≡ c };
 
@@ -66,17 +63,13 @@ impl<U: Unpark, X: Outside<U>, C: RemoteContext<U>> TaskFuture<C> for FromOutsid
         _alloc: Global,
         cx: &mut C,
     ) -> Poll<Result<X::Output, AllocError>> {
-        let me = cx.me();
         match cx.remote_waker() {
             Ok(waker) => match self.outside.poll_outside(rt, waker) {
                 Poll::Ready(answer) => {
                     self.has_answered = true;
                     Poll::Ready(Ok(answer))
                 }
-                Poll::Pending => {
-                    self.task = me;
-                    Poll::Pending
-                }
+                Poll::Pending => Poll::Pending,
             },
             Err(failed) => {
                 self.has_answered = true;
@@ -90,11 +83,11 @@ impl<U: Unpark, X: Outside<U>, C: RemoteContext<U>> TaskFuture<C> for FromOutsid
 
 // It needs the threads that hold a waker of its task.
 impl<U: Unpark, X: Outside<U>, C: RemoteWaitContext<U>> Waits<C> for FromOutside<X, U> {
-    ghost needs = { λ f. OutsideNeeds f.task };
+    ghost needs = { λ f. OutsideNeeds };
 
     ghost polls_reach = { λ f c r g d p. p.0 };
 
     ghost cancels_reach = { λ f c d p. rw p (C.reaches_itself c) };
 
-    ghost covers = { λ f c g d p. outsides_cover C.number C.work C.reaches C.watcher C.reaches_itself C.same_number C.has_handed_out C.watches_outside c d g.task p.0 p.1.0 p.1.1 };
+    ghost covers = { λ f c g d p. outsides_cover C.number C.work C.reaches C.watcher C.reaches_itself C.has_handed_out C.watches_threads c d p.0 p.1 };
 }
