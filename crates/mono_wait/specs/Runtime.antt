@@ -26,8 +26,6 @@ module _ {O B : Type 0} (hosting : B → Hosting) (has_handed_out : Bool) (lists
   machine_watcher parts (machine.of_sleep s) = waker_in (value_at (sleeps_of parts.timers).table s)
   machine_watcher parts (machine.of_task u) = waiter_in (value_at (without_outputs parts.tasks.tasks).table u)
   machine_watcher parts (machine.of_job j) = job_waiter (value_at (hosting parts.blocking).jobs.table j)
-  machine_watcher parts (machine.of_outside u) = None
-  machine_watcher parts (machine.of_peers u) = None
 
   abbrev pub parts_watcher : Parts O B → Source → Option ℕ
   parts_watcher parts (in_machine x) = machine_watcher parts x
@@ -69,16 +67,11 @@ module _ {O : Type 0} (number : O → ℕ) where
   both_stirred (v ∷ table) (suc u) = both_stirred table u
 
 module _ {O B : Type 0} (number : O → ℕ) (hosting : B → Hosting) (parts : Parts O B) (m : Machine) where
-  none-some : (t : ℕ) → None ≡ Some t → ⊥
-  none-some t e = cc
-
   -- the task that waits in the context waits in the machine
   pub parts_same_watcher : (has_handed_out : Bool) (lists : List ℕ → ℕ → Bool) (names : ℕ → Bool) (x : machine.Source) (t : ℕ) → Matches number hosting parts m → parts_watcher hosting has_handed_out lists names parts (in_machine x) ≡ Some t → watcher m x ≡ Some t
   parts_same_watcher has_handed_out lists names (machine.of_sleep s) t st is = sym (seen_waker m.sleeps.table s) ∙ ap (λ t. waker_in (value_at t s)) st.sleeps.table ∙ is
   parts_same_watcher has_handed_out lists names (machine.of_task u) t st is = sym (both_waiters number parts.tasks.tasks.table u ∙ ap (λ t. waiter_at (value_at t.table u)) st.tasks) ∙ is
   parts_same_watcher has_handed_out lists names (machine.of_job j) t st is = sym (ap (λ jobs. job_waiter (value_at jobs.table j)) st.jobs) ∙ is
-  parts_same_watcher has_handed_out lists names (machine.of_outside u) t st is = absurd (none-some t is)
-  parts_same_watcher has_handed_out lists names (machine.of_peers u) t st is = absurd (none-some t is)
 
   pub parts_same_stirred : (u : ℕ) → Matches number hosting parts m → is_stirred_in (value_at (without_outputs parts.tasks.tasks).table u) ≡ is_stirred_in (value_at m.tasks.table u)
   parts_same_stirred u st = both_stirred number parts.tasks.tasks.table u ∙ ap (λ t. is_stirred_in (value_at t.table u)) st.tasks
