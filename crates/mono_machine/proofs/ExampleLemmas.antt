@@ -5,7 +5,7 @@ use Rattle.mono_machine.specs.Machine.{Machine}
 use Rattle.mono_machine.specs.Acts.{act_outcome}
 use Rattle.mono_machine.specs.Turns.{after_turn}
 use Rattle.mono_machine.specs.Steps.{at_clock, greatest_at}
-use Rattle.mono_machine.specs.Examples.{start, new_sleep, poll, DeadlineIsNow, BothRoundings, NoneIsEarly, NoneIsLeftOut, FarSleeps, Ties, WokenInOwnTurn, LatestWaker, EndOfTheType, ClockGoesBack, LateMove, RefusalFirst, RefusalInTheMiddle, NoRoomFirst, RefusalsOfJoin, DoublesInInbox, TwoCauses, NoPool, OnTheCaller, OnAThread, JobsThatEnd, EndOfJobWakesNobody, CanceledIsToldOnce, WakesInOrder, LatestWaiter, LatestWaiterOfJob, NotedTwice, WhoIsListed, FinishesInTheInbox, QueuedStaysInPlace, ResetOfAFreshSleep, DroppedSleepWakesNobody, MovedEarlierIsLast, MovedEarlierKeepsWaker, FinishedTakesRoom, NoHandleTakesRoom, WaitsForItself, TakenHasFinished, DueIsNotElapsed, AscendingTicks, DoneIsNotListed, PollKeepsItsPlace, NoneFiresBeforeAnEarlier, NoneFiresBeforeItsTurn, NoneFiresTwice, WaitsWhileLive, OutsideFires, PeersFire, OwnEndTakes}
+use Rattle.mono_machine.specs.Examples.{start, new_sleep, poll, DeadlineIsNow, BothRoundings, NoneIsEarly, NoneIsLeftOut, FarSleeps, Ties, WokenInOwnTurn, LatestWaker, EndOfTheType, ClockGoesBack, LateMove, RefusalFirst, RefusalInTheMiddle, NoRoomFirst, RefusalsOfJoin, DoublesInInbox, TwoCauses, NoPool, OnTheCaller, OnAThread, JobsThatEnd, EndOfJobWakesNobody, CanceledIsToldOnce, WakesInOrder, LatestWaiter, LatestWaiterOfJob, NotedTwice, WhoIsListed, FinishesInTheInbox, QueuedStaysInPlace, ResetOfAFreshSleep, DroppedSleepWakesNobody, MovedEarlierIsLast, MovedEarlierKeepsWaker, FinishedTakesRoom, NoHandleTakesRoom, WaitsForItself, TakenHasFinished, DueIsNotElapsed, AscendingTicks, DoneIsNotListed, PollKeepsItsPlace, NoneFiresBeforeAnEarlier, NoneFiresBeforeItsTurn, NoneFiresTwice, WhomAWakeNames}
 use Rattle.mono_machine.specs.declared.events.Act.TheVariants as act
 use Rattle.mono_machine.specs.declared.events.End.TheVariants as end
 use Rattle.mono_machine.proofs.FireTestLemmas.{fires, listed, not_listed}
@@ -172,14 +172,5 @@ none_fires_before_its_turn new step = elim (step.1.in_order 0 1 0 (lit< tt) (lit
 pub none_fires_twice : NoneFiresTwice
 none_fires_twice new step = step.1.no_doubles 0 1 0 (lit< tt) (lit< tt) refl
 
-pub waits_while_live : WaitsWhileLive
-waits_while_live = (refl, refl, refl, refl, refl, refl)
-
-pub outside_fires : OutsideFires
-outside_fires = (refl, refl, refl, refl, refl, refl)
-
-pub peers_fire : PeersFire
-peers_fire = (refl, refl, refl, refl)
-
-pub own_end_takes : OwnEndTakes
-own_end_takes = (refl, refl, refl, refl, refl)
+pub whom_a_wake_names : WhomAWakeNames
+whom_a_wake_names = (refl, refl, refl, refl, refl, refl, refl)

@@ -11,7 +11,7 @@ pub mod ValidStepLemmas
 pub mod FinishedTaskLemmas
 pub mod WakeLemmas
 pub mod WatchTableLemmas
-pub mod LiveTaskLemmas
+pub mod EachWakeLemmas
 pub mod WatchLemmas
 pub mod TakenWaitLemmas
 pub mod SpentOutputLemmas

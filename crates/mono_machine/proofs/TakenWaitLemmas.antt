@@ -18,7 +18,7 @@ use Rattle.mono_machine.specs.Acts.{act_outcome}
 use Rattle.mono_machine.specs.Steps.{Step}
 use Rattle.mono_machine.specs.History.{waiter_at}
 use Rattle.mono_machine.specs.JobCalls as jobs
-use Rattle.mono_machine.specs.Watches.{Source, of_sleep, of_task, of_job, of_outside, of_peers, watcher, drops, job_waiter}
+use Rattle.mono_machine.specs.Watches.{Source, of_sleep, of_task, of_job, watcher, drops, job_waiter}
 use Rattle.mono_machine.specs.declared.events.Act.{Act}
 use Rattle.mono_machine.specs.declared.events.Act.TheVariants as act
 use Rattle.mono_machine.specs.declared.events.How.{How}
@@ -97,23 +97,15 @@ act_takes : (m : Machine) → IsValid m → (x : Source) (a : Act) → drops x a
 act_takes m valid (of_sleep s) (act.DropSleep r) is = subst (λ y. sleep.waker_at (sleep.removed m.sleeps r) y ≡ None) (same_of r s is) (sleep_gone m.sleeps r)
 act_takes m valid (of_task u) (act.DropSleep r) is = absurd (false-true is)
 act_takes m valid (of_job j) (act.DropSleep r) is = absurd (false-true is)
-act_takes m valid (of_outside u) (act.DropSleep r) is = absurd (false-true is)
-act_takes m valid (of_peers u) (act.DropSleep r) is = absurd (false-true is)
 act_takes m valid (of_sleep s) (act.DropJoin v) is = absurd (false-true is)
 act_takes m valid (of_task u) (act.DropJoin v) is = subst (λ y. waiter_at (value_at (join_dropped m.tasks v).table y) ≡ None) (same_of v u is) (task_gone m.tasks v (valid.tasks.each v))
 act_takes m valid (of_job j) (act.DropJoin v) is = absurd (false-true is)
-act_takes m valid (of_outside u) (act.DropJoin v) is = absurd (false-true is)
-act_takes m valid (of_peers u) (act.DropJoin v) is = absurd (false-true is)
 act_takes m valid (of_sleep s) (act.DropJob k) is = absurd (false-true is)
 act_takes m valid (of_task u) (act.DropJob k) is = absurd (false-true is)
 act_takes m valid (of_job j) (act.DropJob k) is = subst (λ y. job_waiter (value_at (jobs.job_dropped m.jobs k).table y) ≡ None) (same_of k j is) (job_gone m.jobs k)
-act_takes m valid (of_outside u) (act.DropJob k) is = absurd (false-true is)
-act_takes m valid (of_peers u) (act.DropJob k) is = absurd (false-true is)
 act_takes m valid (of_sleep s) (act.JobEnd k h) is = absurd (false-true is)
 act_takes m valid (of_task u) (act.JobEnd k h) is = absurd (false-true is)
 act_takes m valid (of_job j) (act.JobEnd k h) is = subst (λ y. job_waiter (value_at (jobs.job_ended m.jobs k h).table y) ≡ None) (same_of k j is) (job_over m.jobs k h)
-act_takes m valid (of_outside u) (act.JobEnd k h) is = absurd (false-true is)
-act_takes m valid (of_peers u) (act.JobEnd k h) is = absurd (false-true is)
 act_takes m valid x act.Spawn is = absurd (false-true is)
 act_takes m valid x (act.Wake v) is = absurd (false-true is)
 act_takes m valid x (act.NewSleep n) is = absurd (false-true is)

@@ -1,12 +1,11 @@
 -- Who waits for a source waits for it until it fires or the wait is ended, event by event and along a run.
-use Rattle.std.proofs.Common.{◌≡◌, ◌≢◌, ◌<◌, ◌⊎◌, inl, inr, ℕ, true, false, Bool, cond, List, [], ◌∷◌, ◌++◌, Some, None, Option, refl, ap, sym, subst, ◌∙◌, arith, eq-eqb, ne_eqb}
+use Rattle.std.proofs.Common.{◌≡◌, ◌≢◌, ◌<◌, ◌⊎◌, inl, inr, ℕ, true, false, Bool, cond, List, [], ◌∷◌, ◌++◌, Some, None, Option, refl, ap, sym, subst, ◌∙◌, arith, eq-eqb}
 use Rattle.std.specs.Prelude.{IfSome, not, ◌==◌, ◌&&◌, ◌||◌, nat_lt, nat_le}
 use Rattle.mono_model.specs.Ticks.{max_nanos, up}
 use Rattle.std.proofs.lemmas.Bool.{cases_eq}
 use Rattle.std.proofs.lemmas.Bool.Decides.{eqb_tells}
 use Rattle.mono_model.specs.Table.{value_at, next_number, is_full, is_issued}
-use Rattle.mono_model.specs.Tasks.{Tasks, Task, Phase, idle, queued, running, done, taken, is_finished, is_noted, pause_answer, complete_answer, spawned, woken, woken_if_any, all_woken, begun}
-use Rattle.mono_model.specs.Joins.{join_dropped, joined}
+use Rattle.mono_model.specs.Tasks.{Task, Phase, idle, queued, running, done, taken, is_finished, is_noted, pause_answer, complete_answer}
 use Rattle.mono_model.specs.Inbox.{is_waiting, with_waiting}
 use Rattle.mono_model.specs.Sleeps.{Sleep, waker_of}
 use Rattle.mono_model.specs.SleepActs as sleep
@@ -20,7 +19,7 @@ use Rattle.mono_machine.specs.Acts.{Outcome, for_sleep, reset, answered, refused
 use Rattle.mono_machine.specs.Turns.{replies_of, after_steps, after_end, end_answer, after_begin, turn_report_for, after_turn_for}
 use Rattle.mono_machine.specs.Steps.{Step, ClockStep, Run, has_finished, after_fires, after_fire, at_clock, after_remote, after_drain}
 use Rattle.mono_machine.specs.History.{waiter_at, has_turn_of, is_turn_of, is_awaiting, is_waker, wakes_by_fires, begun_machine}
-use Rattle.mono_machine.specs.Watches.{Source, of_sleep, of_task, of_job, of_outside, of_peers, is_sleep, is_task, is_outside, is_peers, is_over, live_at, IsWatched, drops, polls, takes, says_elapsed, fires_by, fires_step, fires_in, takes_in, is_done, is_fired, fires, is_taken, is_taken_in, is_untouched, Hears, IsHeld, is_stirred, is_stirred_in, drops_step, drops_in}
+use Rattle.mono_machine.specs.Watches.{Source, of_sleep, of_task, of_job, is_sleep, is_task, IsWatched, drops, polls, takes, says_elapsed, fires_by, fires_step, fires_in, takes_in, is_done, is_fired, fires, is_taken, is_taken_in, is_untouched, Hears, IsHeld, is_stirred, is_stirred_in, drops_step, drops_in}
 use Rattle.mono_machine.specs.declared.events.Act.{Act}
 use Rattle.mono_machine.specs.declared.events.Act.TheVariants as act
 use Rattle.mono_machine.specs.declared.events.Query.{Query}
@@ -38,11 +37,10 @@ use Rattle.mono_machine.specs.declared.events.Report.{Report}
 use Rattle.mono_machine.specs.declared.events.Report.TheVariants as report
 use Rattle.mono_machine.specs.declared.events.Blocking.{Blocking}
 use Rattle.mono_machine.specs.declared.events.Blocking.TheVariants as blocking
-use Rattle.mono_machine.proofs.FinishedSetLemmas.{Alike, alike_woken, alike_woken_if_any, alike_all_woken, alike_dropped, alike_joined, alike_paused, finished-spawned, finished-completed}
-use Rattle.mono_machine.proofs.LiveTaskLemmas.{stays_live, live_same, live_unfinished, live_issued, begun_lives, paused_lives}
+use Rattle.mono_machine.proofs.FinishedSetLemmas.{alike_paused}
 use Rattle.mono_machine.proofs.ValidActLemmas.{step_valid}
 use Rattle.mono_machine.proofs.ValidStepLemmas.{begin_valid, steps_valid, step_is_valid}
-use Rattle.mono_machine.proofs.WakeLemmas.{IsKept, Settles, settled, settled_phase, waits, settled_kept, woken_settles, waiting_last, or_right, act_wakes, steps_kept, end_kept, fires_wake, ready_wakes, kept_runs, none_lost, event_kept, awaiting_kept, false-true, or_false_left, or_false_right}
+use Rattle.mono_machine.proofs.WakeLemmas.{IsKept, settled, settled_phase, waits, settled_kept, act_wakes, steps_kept, end_kept, fires_wake, ready_wakes, kept_runs, none_lost, event_kept, awaiting_kept, false-true, or_false_left, or_false_right}
 use Rattle.mono_machine.proofs.WatchTableLemmas.{none-some, true-false, woken_waits, waker_waits, all_woken_waits, spawned_waits, begun_waits, paused_waits, completed_waits, dropped_waits, joined_waits, again_waits, added_waits, fired_waits, removed_waits, reset_waits, polled_waits, made_waits, job_dropped_waits, job_ended_waits, job_polled_waits}
 
 apart_of : (r s : ℕ) → (r == s) ≡ false → s ≢ r
@@ -55,10 +53,6 @@ either_way P false x y at_true at_false = at_false
 and_false : (a b : Bool) → b ≡ false → (a && b) ≡ false
 and_false true b is = is
 and_false false b is = refl
-
-or_none : (b : Bool) → (b || false) ≡ b
-or_none true = refl
-or_none false = refl
 
 same_of : (r s : ℕ) → (r == s) ≡ true → r ≡ s
 same_of r s is = elim (eqb_tells r s) [ inl here ↦ here.1 | inr apart ↦ absurd (true-false (sym is ∙ apart.0)) ]
@@ -147,49 +141,10 @@ module _ (t : ℕ) (m : Machine) where
     job_act (act.JobFinished k) d = is
     job_act (act.JobEnd k h) d = job_ended_waits t j m.jobs k h (apart_of k j d) is
 
-  -- a task that has not finished
-  module _ (u : ℕ) (is : live_at m.tasks.table u ≡ Some t) where
-    live_alike : (tasks : Tasks ℕ) → Alike tasks m.tasks → live_at tasks.table u ≡ Some t
-    live_alike tasks same = stays_live t u m.tasks.table tasks.table (λ lives. same u ∙ lives) is
-
-    live_spawned : live_at (spawned m.tasks).table u ≡ Some t
-    live_spawned = stays_live t u m.tasks.table (spawned m.tasks).table (λ lives. finished-spawned m.tasks u ∙ and_false (not (u == next_number m.tasks.table)) (has_finished (value_at m.tasks.table u)) lives) is
-
-    live_reset : (r n : ℕ) (v : Option Sleep) (b : Bool) → live_at (for_sleep v m (cond b (refused refusal.Invalid m) (reset r n m))).machine.tasks.table u ≡ Some t
-    live_reset r n None b = is
-    live_reset r n (Some v) true = is
-    live_reset r n (Some v) false = live_alike (woken_if_any m.tasks (waker_in (sleep.reset_answer m.sleeps r n))) (alike_woken_if_any m.tasks (waker_in (sleep.reset_answer m.sleeps r n)))
-
-    live_block : (b : Blocking) (output : ℕ) → live_at (block b output m).machine.tasks.table u ≡ Some t
-    live_block blocking.Attached output = is
-    live_block blocking.ExecuteLocal output = is
-    live_block blocking.Panic output = is
-
-    live_act : (a : Act) → live_at (act_outcome a m).machine.tasks.table u ≡ Some t
-    live_act act.Spawn = either_way (λ x. live_at x.tasks.table u ≡ Some t) (is_full m.tasks.table m.tasks.limit) _ _ is live_spawned
-    live_act (act.Wake v) = live_alike (woken m.tasks v) (alike_woken m.tasks v)
-    live_act (act.NewSleep n) = either_way (λ x. live_at x.tasks.table u ≡ Some t) (is_full m.sleeps.table m.sleeps.limit) _ _ is (either_way (λ x. live_at x.tasks.table u ≡ Some t) (nat_lt max_nanos n) _ _ is is)
-    live_act (act.Reset r n) = live_reset r n (value_at m.sleeps.table r) (nat_lt max_nanos n)
-    live_act (act.DropSleep r) = is
-    live_act (act.SleepElapsed r) = is
-    live_act (act.DropJoin v) = live_alike (join_dropped m.tasks v) (alike_dropped m.tasks v)
-    live_act (act.Block output) = either_way (λ x. live_at x.tasks.table u ≡ Some t) (is_full m.jobs.table m.jobs.limit) _ _ is (live_block m.strategy output)
-    live_act (act.DropJob j) = is
-    live_act (act.Finished v) = is
-    live_act (act.JobFinished j) = is
-    live_act (act.JobEnd j h) = is
-
-    live_query : (me : ℕ) (q : Query) → live_at (query_outcome me q m).machine.tasks.table u ≡ Some t
-    live_query me (query.Sleep r) = is
-    live_query me (query.Join v) = live_alike (joined m.tasks v me) (alike_joined m.tasks v me)
-    live_query me (query.Job k) = is
-
   act_watch : (x : Source) → IsWatched m t x → (a : Act) → drops x a ≡ false → fires_by x a (act_outcome a m).reply ≡ false → IsWatched (act_outcome a m).machine t x
   act_watch (of_sleep s) is a d f = sleep_act s is a d f
   act_watch (of_task u) is a d f = task_act u is a d
   act_watch (of_job j) is a d f = job_act j is a d
-  act_watch (of_outside u) is a d f = live_act u is a
-  act_watch (of_peers u) is a d f = live_act u is a
 
   -- a poll of another source, or by t itself
   own : (me a b : ℕ) → (not (me == t) && (a == b)) ≡ false → b ≡ a → me ≡ t
@@ -215,8 +170,6 @@ module _ (t : ℕ) (m : Machine) where
   query_watch me valid (of_job j) is (query.Sleep r) keeps = is
   query_watch me valid (of_job j) is (query.Join v) keeps = is
   query_watch me valid (of_job j) is (query.Job k) keeps = job_polled_waits t j m.jobs k me (own me k j keeps) is
-  query_watch me valid (of_outside u) is q keeps = live_query u is me q
-  query_watch me valid (of_peers u) is q keeps = live_query u is me q
 
   step_watch : (me : ℕ) → IsValidDuring (Some me) m → (x : Source) → IsWatched m t x → (s : TurnStep) → takes t me x s ≡ false → fires_step x s (step_outcome me s m).reply ≡ false → IsWatched (step_outcome me s m).machine t x
   step_watch me valid x is (step.Act a) d f = act_watch x is a d f
@@ -237,21 +190,13 @@ module _ (t : ℕ) (m : Machine) where
     | inr apart ↦ absurd (false-true (sym (ap (λ b. b && says_elapsed (act_outcome (act.Reset r n) m).reply) apart.0) ∙ told))
   ]
 
-  -- A wake by another task reaches the waiting task.
-  wake_fires : (u v : ℕ) → live_at m.tasks.table u ≡ Some t → (v == u) ≡ true → IsKept t (act_outcome (act.Wake v) m).machine
-  wake_fires u v is told = settled_kept t (act_outcome (act.Wake v) m).machine (subst (λ x. Settles x (woken m.tasks v)) (same_of v u told ∙ live_same t u m.tasks.table is) (woken_settles m.tasks v))
-
   act_fires : (x : Source) → IsWatched m t x → (a : Act) → fires_by x a (act_outcome a m).reply ≡ true → IsKept t (act_outcome a m).machine
   act_fires (of_sleep s) is (act.Reset r n) told = reset_fires s r n is told
   act_fires (of_task u) is (act.Reset r n) told = absurd (false-true told)
   act_fires (of_job j) is (act.Reset r n) told = absurd (false-true told)
-  act_fires (of_outside u) is (act.Reset r n) told = absurd (false-true told)
-  act_fires (of_peers u) is (act.Reset r n) told = absurd (false-true told)
   act_fires (of_sleep s) is (act.Wake v) told = absurd (false-true told)
   act_fires (of_task u) is (act.Wake v) told = absurd (false-true told)
   act_fires (of_job j) is (act.Wake v) told = absurd (false-true told)
-  act_fires (of_outside u) is (act.Wake v) told = absurd (false-true told)
-  act_fires (of_peers u) is (act.Wake v) told = wake_fires u v is told
   act_fires x is act.Spawn told = absurd (false-true told)
   act_fires x is (act.NewSleep n) told = absurd (false-true told)
   act_fires x is (act.DropSleep r) told = absurd (false-true told)
@@ -272,37 +217,27 @@ module _ (t : ℕ) (m : Machine) where
   inbox_watch (of_sleep s) inbox is = is
   inbox_watch (of_task u) inbox is = is
   inbox_watch (of_job j) inbox is = is
-  inbox_watch (of_outside u) inbox is = is
-  inbox_watch (of_peers u) inbox is = is
 
   begin_watch : (x : Source) (front : ℕ) (rest : List ℕ) → IsWatched m t x → IsWatched (after_begin front rest m) t x
   begin_watch (of_sleep s) front rest is = is
   begin_watch (of_task u) front rest is = begun_waits t u m.tasks front rest is
   begin_watch (of_job j) front rest is = is
-  begin_watch (of_outside u) front rest is = stays_live t u m.tasks.table (begun m.tasks front rest).table (begun_lives m.tasks front rest u) is
-  begin_watch (of_peers u) front rest is = stays_live t u m.tasks.table (begun m.tasks front rest).table (begun_lives m.tasks front rest u) is
 
   fire_watch : (x : Source) (r : ℕ) → is_sleep r x ≡ false → IsWatched m t x → IsWatched (after_fire m r) t x
   fire_watch (of_sleep s) r apart is = fired_waits t s m.sleeps r (apart_of r s apart) is
   fire_watch (of_task u) r apart is = waker_waits t u m.tasks (sleep.waker_at m.sleeps r) is
   fire_watch (of_job j) r apart is = is
-  fire_watch (of_outside u) r apart is = live_alike u is (woken_if_any m.tasks (sleep.waker_at m.sleeps r)) (alike_woken_if_any m.tasks (sleep.waker_at m.sleeps r))
-  fire_watch (of_peers u) r apart is = live_alike u is (woken_if_any m.tasks (sleep.waker_at m.sleeps r)) (alike_woken_if_any m.tasks (sleep.waker_at m.sleeps r))
 
   clock_watch : (x : Source) (n : ℕ) → IsWatched m t x → IsWatched (at_clock m n) t x
   clock_watch (of_sleep s) n is = is
   clock_watch (of_task u) n is = is
   clock_watch (of_job j) n is = is
-  clock_watch (of_outside u) n is = is
-  clock_watch (of_peers u) n is = is
 
   -- the end of a turn
   pending_watch : (x : Source) (me : ℕ) → IsWatched m t x → IsWatched (after_end end.Pending me m) t x
   pending_watch (of_sleep s) me is = is
   pending_watch (of_task u) me is = paused_waits t u m.tasks me is
   pending_watch (of_job j) me is = is
-  pending_watch (of_outside u) me is = stays_live t u m.tasks.table _ (paused_lives m.tasks me u) is
-  pending_watch (of_peers u) me is = stays_live t u m.tasks.table _ (paused_lives m.tasks me u) is
 
   ready_is_done : (me output : ℕ) (next : ℕ) (v : Option (Task ℕ)) → waiter_at v ≡ Some t → IfSome v (IsValidTask next) → is_done (complete_answer v) ≡ true
   ready_is_done me output next None is valid = absurd (none-some t is)
@@ -314,34 +249,14 @@ module _ (t : ℕ) (m : Machine) where
     | inr apart ↦ completed_waits t u m.tasks me output (apart_of me u apart.0) is
   ]
 
-  -- the task that ends ready waits for nothing more, and any other as before
-  ready_is_over : (v : Option (Task ℕ)) → is_over (complete_answer v) ≡ true
-  ready_is_over None = refl
-  ready_is_over (Some task) = by_kept task.is_kept
-    where
-      by_kept : (b : Bool) → is_over (cond b ended.Done ended.Gone) ≡ true
-      by_kept true = refl
-      by_kept false = refl
+  ready_watch : (x : Source) (me output : ℕ) → IsValidDuring (Some me) m → IsWatched m t x → (is_task me x && is_done (end_answer (end.Ready output) me m)) ≡ false → IsWatched (after_end (end.Ready output) me m) t x
+  ready_watch (of_sleep s) me output valid is f = is
+  ready_watch (of_task u) me output valid is f = ready_task me output u valid is f
+  ready_watch (of_job j) me output valid is f = is
 
-  ready_live : (me output u : ℕ) (b : Bool) → (me == u) ≡ b → live_at m.tasks.table u ≡ Some t → (b && is_over (end_answer (end.Ready output) me m)) ≡ false → live_at (after_end (end.Ready output) me m).tasks.table u ≡ Some t
-  ready_live me output u true same is k = absurd (true-false (sym (ready_is_over (value_at m.tasks.table me)) ∙ k))
-  ready_live me output u false apart is k = stays_live t u m.tasks.table _ (λ lives. finished-completed me m.tasks output u ∙ other (u == me) lives (ne_eqb u me (apart_of me u apart))) is
-    where
-      other : (b : Bool) {c : Bool} → c ≡ false → b ≡ false → (b || c) ≡ false
-      other true lives here = absurd (true-false here)
-      other false lives here = lives
-
-  ready_watch : (x : Source) (me output : ℕ) → IsValidDuring (Some me) m → IsWatched m t x → (is_task me x && is_done (end_answer (end.Ready output) me m)) ≡ false → ((is_outside me x || is_peers me x) && is_over (end_answer (end.Ready output) me m)) ≡ false
-      → IsWatched (after_end (end.Ready output) me m) t x
-  ready_watch (of_sleep s) me output valid is f k = is
-  ready_watch (of_task u) me output valid is f k = ready_task me output u valid is f
-  ready_watch (of_job j) me output valid is f k = is
-  ready_watch (of_outside u) me output valid is f k = ready_live me output u (me == u) refl is (sym (ap (λ b. b && is_over (end_answer (end.Ready output) me m)) (or_none (me == u))) ∙ k)
-  ready_watch (of_peers u) me output valid is f k = ready_live me output u (me == u) refl is k
-
-  end_watch : (x : Source) (me : ℕ) (e : End) → IsValidDuring (Some me) m → IsWatched m t x → (is_task me x && is_done (end_answer e me m)) ≡ false → ((is_outside me x || is_peers me x) && is_over (end_answer e me m)) ≡ false → IsWatched (after_end e me m) t x
-  end_watch x me end.Pending valid is f k = pending_watch x me is
-  end_watch x me (end.Ready output) valid is f k = ready_watch x me output valid is f k
+  end_watch : (x : Source) (me : ℕ) (e : End) → IsValidDuring (Some me) m → IsWatched m t x → (is_task me x && is_done (end_answer e me m)) ≡ false → IsWatched (after_end e me m) t x
+  end_watch x me end.Pending valid is f = pending_watch x me is
+  end_watch x me (end.Ready output) valid is f = ready_watch x me output valid is f
 
   paused_not_done : (v : Option (Task ℕ)) → is_done (pause_answer v) ≡ false
   paused_not_done None = refl
@@ -359,8 +274,6 @@ module _ (t : ℕ) (m : Machine) where
     | inr apart ↦ absurd (false-true (sym (ap (λ b. b && is_done (end_answer (end.Ready output) me m)) apart.0) ∙ told))
   ]
   end_fires (of_job j) me (end.Ready output) valid is told = absurd (false-true told)
-  end_fires (of_outside u) me (end.Ready output) valid is told = absurd (false-true told)
-  end_fires (of_peers u) me (end.Ready output) valid is told = absurd (false-true told)
 
 -- the steps of a turn
 record Neither (a b f k : Bool) : Type 0 where
@@ -398,9 +311,8 @@ turn_watch : (t : ℕ) (x : Source) (steps : List TurnStep) (e : End) (m : Machi
 turn_watch t x steps e m valid is [] at f k = is
 turn_watch t x steps e m valid is (front ∷ rest) at f k =
     end_watch t (after_steps front steps (after_begin front rest m)) x front e (steps_valid front steps (after_begin front rest m) (begin_valid m front rest at valid))
-    (steps_watch t front x steps (after_begin front rest m) (begin_valid m front rest at valid) (begin_watch t m x front rest is) (or_false_left _ _ f) (or_false_left _ _ k))
-    (at_end (takes_in t front x steps (replies_of front steps (after_begin front rest m))) (or_false_left _ _ k) (or_false_right (fires_in t front x steps (replies_of front steps (after_begin front rest m))) _ f))
-    (at_end (fires_in t front x steps (replies_of front steps (after_begin front rest m))) (or_false_left _ _ f) (or_false_right (takes_in t front x steps (replies_of front steps (after_begin front rest m))) _ k))
+    (steps_watch t front x steps (after_begin front rest m) (begin_valid m front rest at valid) (begin_watch t m x front rest is) (or_false_left _ _ f) k)
+    (at_end (takes_in t front x steps (replies_of front steps (after_begin front rest m))) k (or_false_right (fires_in t front x steps (replies_of front steps (after_begin front rest m))) _ f))
   where
     at_end : (b : Bool) {c : Bool} → b ≡ false → (not b && c) ≡ false → c ≡ false
     at_end true here all = absurd (true-false here)
@@ -430,8 +342,6 @@ fires_watch t x [] m f is = is
 fires_watch t (of_sleep s) (r ∷ fired) m f is = fires_watch t (of_sleep s) fired (after_fire m r) (or_false_right (r == s) _ f) (fire_watch t m (of_sleep s) r (or_false_left (r == s) _ f) is)
 fires_watch t (of_task u) (r ∷ fired) m f is = fires_watch t (of_task u) fired (after_fire m r) refl (fire_watch t m (of_task u) r refl is)
 fires_watch t (of_job j) (r ∷ fired) m f is = fires_watch t (of_job j) fired (after_fire m r) refl (fire_watch t m (of_job j) r refl is)
-fires_watch t (of_outside u) (r ∷ fired) m f is = fires_watch t (of_outside u) fired (after_fire m r) refl (fire_watch t m (of_outside u) r refl is)
-fires_watch t (of_peers u) (r ∷ fired) m f is = fires_watch t (of_peers u) fired (after_fire m r) refl (fire_watch t m (of_peers u) r refl is)
 
 listed_wakes : (t s : ℕ) (m : Machine) → IsWatched m t (of_sleep s) → (fired : List ℕ) → is_waiting fired s ≡ true → wakes_by_fires t m.sleeps.table fired ≡ true
 listed_wakes t s m is [] told = absurd (false-true told)
@@ -456,8 +366,6 @@ clock_fires : (t : ℕ) (x : Source) (m : Machine) (n : ℕ) (answer : Report) (
 clock_fires t (of_sleep s) m n (report.Fired fired) new is told by = subst (IsKept t) (sym by.2) (fires_wake t fired (at_clock m n) (listed_wakes t s m is fired told))
 clock_fires t (of_task u) m n (report.Fired fired) new is told by = absurd (false-true told)
 clock_fires t (of_job j) m n (report.Fired fired) new is told by = absurd (false-true told)
-clock_fires t (of_outside u) m n (report.Fired fired) new is told by = absurd (false-true told)
-clock_fires t (of_peers u) m n (report.Fired fired) new is told by = absurd (false-true told)
 clock_fires t x m n (report.Reply r) new is told by = absurd (false-true told)
 clock_fires t x m n (report.Turn me replies ended) new is told by = absurd by
 clock_fires t x m n report.Listed new is told by = absurd by
@@ -476,25 +384,6 @@ drain_watch : (t : ℕ) (x : Source) (m : Machine) → IsWatched m t x → IsWat
 drain_watch t (of_sleep s) m is = is
 drain_watch t (of_task u) m is = all_woken_waits t u m.tasks m.inbox is
 drain_watch t (of_job j) m is = is
-drain_watch t (of_outside u) m is = live_alike t m u is (all_woken m.tasks m.inbox) (alike_all_woken m.tasks m.inbox)
-drain_watch t (of_peers u) m is = live_alike t m u is (all_woken m.tasks m.inbox) (alike_all_woken m.tasks m.inbox)
-
--- A wake from outside reaches the waiting task, which may be in the inbox before.
-outside_wakes : (t u : ℕ) (m : Machine) → live_at m.tasks.table u ≡ Some t → IsKept t (after_remote m u)
-outside_wakes t u m is = subst (λ x. IsKept x (after_remote m u)) (live_same t u m.tasks.table is) (by_issued (is_issued m.tasks.table u) refl (has_finished (value_at m.tasks.table u)) (live_unfinished t u m.tasks.table is) (is_waiting m.inbox u) refl)
-  where
-    by_issued : (b : Bool) → is_issued m.tasks.table u ≡ b → (c : Bool) → c ≡ false → (d : Bool) → is_waiting m.inbox u ≡ d → IsKept u (cond b (cond (c || d) m (with_inbox m (with_waiting m.inbox u))) m)
-    by_issued b issued true unfinished d waits = absurd (true-false unfinished)
-    by_issued true issued false unfinished true waits = or_right (settled (value_at m.tasks.table u)) _ waits
-    by_issued true issued false unfinished false waits = or_right (settled (value_at m.tasks.table u)) _ (waiting_last m.inbox u)
-    by_issued false issued false unfinished d waits = absurd (true-false (sym (live_issued t u m.tasks.table is) ∙ issued))
-
-remote_fires : (t v : ℕ) (x : Source) (m : Machine) → IsWatched m t x → is_outside v x ≡ true → IsKept t (after_remote m v)
-remote_fires t v (of_sleep s) m is told = absurd (false-true told)
-remote_fires t v (of_task u) m is told = absurd (false-true told)
-remote_fires t v (of_job j) m is told = absurd (false-true told)
-remote_fires t v (of_outside u) m is told = outside_wakes t v m (subst (λ y. live_at m.tasks.table y ≡ Some t) (sym (same_of v u told)) is)
-remote_fires t v (of_peers u) m is told = absurd (false-true told)
 
 -- one event
 pub event_watch : (old : Machine) (e : Event) (answer : Report) (new : Machine) (t : ℕ) (x : Source) → IsValid old → Step old e answer new → IsWatched old t x → fires t x e answer ≡ false → is_taken t x e answer ≡ false → IsWatched new t x
@@ -509,7 +398,7 @@ event_fires : (old : Machine) (e : Event) (answer : Report) (new : Machine) (t :
 event_fires old (event.Act a) answer new t x valid by is told = subst (IsKept t) (sym by.1) (act_fires t old x is a (sym (ap (fires t x (event.Act a)) by.0) ∙ told))
 event_fires old (event.Turn steps e) answer new t x valid by is told = subst (IsKept t) (sym by.1) (turn_fires t x steps e old valid is old.tasks.queue refl (sym (ap (fires t x (event.Turn steps e)) by.0) ∙ told))
 event_fires old (event.Clock n) answer new t x valid by is told = clock_fires t x old n answer new is told by
-event_fires old (event.Remote u) answer new t x valid by is told = subst (IsKept t) (sym by.1) (remote_fires t u x old is told)
+event_fires old (event.Remote u) answer new t x valid by is told = absurd (false-true told)
 event_fires old event.Drain answer new t x valid by is told = absurd (false-true told)
 
 -- along a run

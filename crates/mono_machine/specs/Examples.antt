@@ -6,13 +6,12 @@ use Rattle.mono_machine.specs.Machine.{Machine, start_machine}
 use Rattle.mono_machine.specs.Acts.{act_outcome}
 use Rattle.mono_machine.specs.Turns.{after_turn}
 use Rattle.mono_machine.specs.Steps.{Run, Step}
-use Rattle.mono_machine.specs.Watches.{of_sleep, of_outside, of_peers, watcher, fires, is_taken}
+use Rattle.mono_machine.specs.History.{is_wake_of}
 use Rattle.mono_machine.specs.declared.events.Act.TheVariants as act
 use Rattle.mono_machine.specs.declared.events.How.TheVariants as how
 use Rattle.mono_machine.specs.declared.events.Query.TheVariants as query
 use Rattle.mono_machine.specs.declared.events.TurnStep.{TurnStep}
 use Rattle.mono_machine.specs.declared.events.TurnStep.TheVariants as step
-use Rattle.mono_machine.specs.declared.events.End.{End}
 use Rattle.mono_machine.specs.declared.events.End.TheVariants as end
 use Rattle.mono_machine.specs.declared.events.Event.{Event}
 use Rattle.mono_machine.specs.declared.events.Event.TheVariants as event
@@ -320,32 +319,11 @@ NoneFiresBeforeItsTurn = (new : Machine) → Step (two_armed 10000000 10000000) 
 abbrev pub NoneFiresTwice : Type 0
 NoneFiresTwice = (new : Machine) → Step (two_armed 10000000 20000000) (event.Clock 10000000) (report.Fired (0 ∷ 0 ∷ [])) new → ⊥
 
--- the machine once one task has had a turn
-abbrev pub after_one : End → Machine
-after_one e = after_turn [] e (act_outcome act.Spawn (start 16)).machine
-
--- A task waits for threads and for other tasks until it has finished. A number that was not given out waits for nothing.
-abbrev pub WaitsWhileLive : Type 0
-WaitsWhileLive =
-    (watcher (after_one end.Pending) (of_outside 0) ≡ Some 0) × (watcher (after_one end.Pending) (of_peers 0) ≡ Some 0) × (watcher (after_one end.Pending) (of_outside 1) ≡ None) × (watcher (after_one end.Pending) (of_peers 1) ≡ None)
-    × (watcher (after_one (end.Ready 7)) (of_outside 0) ≡ None) × (watcher (after_one (end.Ready 7)) (of_peers 0) ≡ None)
-
--- A wake from outside fires the threads that hold a waker of its task, listed or not, and no other source.
-abbrev pub OutsideFires : Type 0
-OutsideFires =
-    (fires 0 (of_outside 0) (event.Remote 0) report.Listed ≡ true) × (fires 0 (of_outside 0) (event.Remote 0) report.Unlisted ≡ true) × (fires 0 (of_outside 0) (event.Remote 1) report.Listed ≡ false)
-    × (fires 0 (of_outside 0) (event.Act (act.Wake 0)) (report.Reply (reply.Woke woke.Queued)) ≡ false) × (fires 0 (of_peers 0) (event.Remote 0) report.Listed ≡ false) × (fires 0 (of_sleep 0) (event.Remote 0) report.Listed ≡ false)
-
--- A wake by another task fires for the task that it wakes, outside a turn and in one.
-abbrev pub PeersFire : Type 0
-PeersFire =
-    (fires 0 (of_peers 0) (event.Act (act.Wake 0)) (report.Reply (reply.Woke woke.Queued)) ≡ true) × (fires 0 (of_peers 0) (event.Act (act.Wake 1)) (report.Reply (reply.Woke woke.Queued)) ≡ false)
-    × (fires 0 (of_peers 0) (event.Turn (step.Act (act.Wake 0) ∷ []) end.Pending) (report.Turn 1 (reply.Woke woke.Queued ∷ []) ended.Idle) ≡ true)
-    × (fires 0 (of_peers 0) (event.Turn (step.Act (act.Wake 1) ∷ []) end.Pending) (report.Turn 1 (reply.Woke woke.Noted ∷ []) ended.Again) ≡ false)
-
--- Its own end takes the wait of a task for threads and for other tasks. A pending turn and another task's end do not.
-abbrev pub OwnEndTakes : Type 0
-OwnEndTakes =
-    (is_taken 0 (of_outside 0) (event.Turn [] (end.Ready 7)) (report.Turn 0 [] ended.Done) ≡ true) × (is_taken 0 (of_peers 0) (event.Turn [] (end.Ready 7)) (report.Turn 0 [] ended.Gone) ≡ true)
-    × (is_taken 0 (of_outside 0) (event.Turn [] end.Pending) (report.Turn 0 [] ended.Idle) ≡ false) × (is_taken 0 (of_peers 0) (event.Turn [] (end.Ready 7)) (report.Turn 1 [] ended.Done) ≡ false)
-    × (is_taken 0 (of_sleep 0) (event.Turn [] (end.Ready 7)) (report.Turn 0 [] ended.Done) ≡ false)
+-- A wake is one of the task that it names, whatever it answers: from outside, by an act, or by a step of a turn. A turn
+-- that was refused wakes nobody.
+abbrev pub WhomAWakeNames : Type 0
+WhomAWakeNames =
+    (is_wake_of 0 (event.Remote 0) report.Listed ≡ true) × (is_wake_of 0 (event.Remote 0) report.Unlisted ≡ true) × (is_wake_of 0 (event.Remote 1) report.Listed ≡ false)
+    × (is_wake_of 0 (event.Act (act.Wake 0)) (report.Reply (reply.Woke woke.Nothing)) ≡ true) × (is_wake_of 0 (event.Act (act.Wake 1)) (report.Reply (reply.Woke woke.Queued)) ≡ false)
+    × (is_wake_of 0 (event.Turn (step.Act (act.Wake 1) ∷ step.Act (act.Wake 0) ∷ []) end.Pending) (report.Turn 1 (reply.Woke woke.Noted ∷ reply.Woke woke.Queued ∷ []) ended.Again) ≡ true)
+    × (is_wake_of 0 (event.Turn (step.Act (act.Wake 0) ∷ []) end.Pending) (report.Reply (reply.Refused refusal.Idle)) ≡ false)

@@ -166,3 +166,33 @@ tells_wake t old (event.Turn steps e) answer = turn_tells t (begun_machine old.t
 tells_wake t old (event.Clock n) answer = clock_tells t old.sleeps.table answer
 tells_wake t old (event.Remote u) answer = (u == t) && is_listed answer
 tells_wake t old event.Drain answer = drain_tells t answer
+
+-- Whether the act is a wake of t, whatever it answers.
+abbrev pub is_wake_act : ℕ → Act → Bool
+is_wake_act t (act.Wake u) = u == t
+is_wake_act t act.Spawn = false
+is_wake_act t (act.NewSleep n) = false
+is_wake_act t (act.Reset s n) = false
+is_wake_act t (act.DropSleep s) = false
+is_wake_act t (act.SleepElapsed s) = false
+is_wake_act t (act.DropJoin u) = false
+is_wake_act t (act.Block output) = false
+is_wake_act t (act.DropJob j) = false
+is_wake_act t (act.Finished u) = false
+is_wake_act t (act.JobFinished j) = false
+is_wake_act t (act.JobEnd j h) = false
+
+abbrev pub is_wake_step : ℕ → TurnStep → Bool
+is_wake_step t (step.Act a) = is_wake_act t a
+is_wake_step t (step.Query q) = false
+
+abbrev pub has_wake_of : ℕ → List TurnStep → Bool
+has_wake_of t [] = false
+has_wake_of t (s ∷ steps) = is_wake_step t s || has_wake_of t steps
+
+-- Whether the event is a wake of t, whatever it answers: from outside, by an act, or by a step of a turn.
+abbrev pub is_wake_of : ℕ → Event → Report → Bool
+is_wake_of t (event.Act a) answer = is_wake_act t a
+is_wake_of t (event.Turn steps e) (report.Turn me replies ended) = has_wake_of t steps
+is_wake_of t (event.Remote u) answer = u == t
+is_wake_of t e answer = false

@@ -1,6 +1,6 @@
 -- The sources for which a task may wait in the machine, the waiting task, and the ends of such a wait.
-use Rattle.std.specs.Prelude.{◌≡◌, ◌⊎◌, ℕ, Bool, true, false, not, if◌then◌else◌, ◌==◌, ◌&&◌, ◌||◌, List, [], ◌∷◌, Option, Some, None}
-use Rattle.mono_model.specs.Table.{Table, value_at}
+use Rattle.std.specs.Prelude.{◌≡◌, ◌⊎◌, ℕ, Bool, true, false, not, ◌==◌, ◌&&◌, ◌||◌, List, [], ◌∷◌, Option, Some, None}
+use Rattle.mono_model.specs.Table.{value_at}
 use Rattle.mono_model.specs.Inbox.{is_waiting}
 use Rattle.mono_model.specs.Tasks.{Task, Phase, idle, queued, running, done, taken}
 use Rattle.mono_model.specs.Jobs as job
@@ -8,7 +8,6 @@ use Rattle.mono_model.specs.SleepActs as sleep
 use Rattle.mono_model.specs.declared.Ended.{Ended}
 use Rattle.mono_model.specs.declared.Ended.TheVariants as ended
 use Rattle.mono_machine.specs.Machine.{Machine}
-use Rattle.mono_machine.specs.Steps.{has_finished}
 use Rattle.mono_machine.specs.History.{waiter_at}
 use Rattle.mono_machine.specs.declared.events.Act.{Act}
 use Rattle.mono_machine.specs.declared.events.Act.TheVariants as act
@@ -23,51 +22,26 @@ use Rattle.mono_machine.specs.declared.events.Reply.TheVariants as reply
 use Rattle.mono_machine.specs.declared.events.Report.{Report}
 use Rattle.mono_machine.specs.declared.events.Report.TheVariants as report
 
--- A sleep, the end of a task, the end of a job, the threads that hold a waker of a task, or the tasks that find its
--- number in a value that they share.
+-- A sleep, the end of a task, or the end of a job.
 pub data Source : Type 0 where
   of_sleep : (s : ℕ) → Source
   of_task : (u : ℕ) → Source
   of_job : (j : ℕ) → Source
-  of_outside : (u : ℕ) → Source
-  of_peers : (u : ℕ) → Source
 
 abbrev pub is_sleep : ℕ → Source → Bool
 is_sleep r (of_sleep s) = r == s
 is_sleep r (of_task u) = false
 is_sleep r (of_job j) = false
-is_sleep r (of_outside u) = false
-is_sleep r (of_peers u) = false
 
 abbrev pub is_task : ℕ → Source → Bool
 is_task v (of_sleep s) = false
 is_task v (of_task u) = v == u
 is_task v (of_job j) = false
-is_task v (of_outside u) = false
-is_task v (of_peers u) = false
 
 abbrev pub is_job : ℕ → Source → Bool
 is_job k (of_sleep s) = false
 is_job k (of_task u) = false
 is_job k (of_job j) = k == j
-is_job k (of_outside u) = false
-is_job k (of_peers u) = false
-
--- Whether x is the threads that hold a waker of v.
-abbrev pub is_outside : ℕ → Source → Bool
-is_outside v (of_sleep s) = false
-is_outside v (of_task u) = false
-is_outside v (of_job j) = false
-is_outside v (of_outside u) = v == u
-is_outside v (of_peers u) = false
-
--- Whether x is the tasks that find v in a value that they share.
-abbrev pub is_peers : ℕ → Source → Bool
-is_peers v (of_sleep s) = false
-is_peers v (of_task u) = false
-is_peers v (of_job j) = false
-is_peers v (of_outside u) = false
-is_peers v (of_peers u) = v == u
 
 -- The task that waits for a job.
 abbrev pub job_waiter : Option job.Job → Option ℕ
@@ -77,18 +51,11 @@ job_waiter (Some (job.ended_ok output)) = None
 job_waiter (Some job.ended_canceled) = None
 job_waiter (Some job.taken) = None
 
--- The task u while it has not finished: until then each wake of it leads to a turn.
-abbrev pub live_at : Table (Task ℕ) → ℕ → Option ℕ
-live_at table u = if has_finished (value_at table u) then None else Some u
-
 -- The one task that waits for a source: the waker of an armed sleep, the waiter of a task, the waiter of a running job.
--- Threads and other tasks can wake an unfinished task alone.
 abbrev pub watcher : Machine → Source → Option ℕ
 watcher m (of_sleep s) = sleep.waker_at m.sleeps s
 watcher m (of_task u) = waiter_at (value_at m.tasks.table u)
 watcher m (of_job j) = job_waiter (value_at m.jobs.table j)
-watcher m (of_outside u) = live_at m.tasks.table u
-watcher m (of_peers u) = live_at m.tasks.table u
 
 -- Whether t waits for x.
 abbrev pub IsWatched : Machine → ℕ → Source → Type 0
@@ -136,11 +103,11 @@ says_elapsed (reply.Output output) = false
 says_elapsed reply.Canceled = false
 says_elapsed (reply.Refused r) = false
 
--- Whether the act wakes the watcher of x: a reset of the sleep, which has elapsed at once, or a wake by another task.
+-- Whether the act wakes the watcher of x: a reset of the sleep, which has elapsed at once.
 abbrev pub fires_by : Source → Act → Reply → Bool
 fires_by x (act.Reset s n) r = is_sleep s x && says_elapsed r
 fires_by x act.Spawn r = false
-fires_by x (act.Wake u) r = is_peers u x
+fires_by x (act.Wake u) r = false
 fires_by x (act.NewSleep n) r = false
 fires_by x (act.DropSleep s) r = false
 fires_by x (act.SleepElapsed s) r = false
@@ -174,36 +141,25 @@ is_done ended.Idle = false
 is_done ended.Again = false
 is_done ended.Gone = false
 
--- Whether a turn ended with an output.
-abbrev pub is_over : Ended → Bool
-is_over ended.Done = true
-is_over ended.Idle = false
-is_over ended.Again = false
-is_over ended.Gone = true
-
 abbrev pub is_fired : Source → List ℕ → Bool
 is_fired (of_sleep s) fired = is_waiting fired s
 is_fired (of_task u) fired = false
 is_fired (of_job j) fired = false
-is_fired (of_outside u) fired = false
-is_fired (of_peers u) fired = false
 
 -- Whether x fires: a clock step lists its sleep, or its sleep is reset to an instant that has come, or its task has
--- finished. Threads fire by a wake from outside, and other tasks by a wake.
+-- finished.
 abbrev pub fires : ℕ → Source → Event → Report → Bool
 fires t x (event.Act a) (report.Reply r) = fires_by x a r
 fires t x (event.Turn steps e) (report.Turn me replies end) =
     fires_in t me x steps replies || (not (takes_in t me x steps replies) && (is_task me x && is_done end))
 fires t x (event.Clock n) (report.Fired fired) = is_fired x fired
-fires t x (event.Remote u) answer = is_outside u x
 fires t x e answer = false
 
 -- Whether the event ends the wait of t for x and wakes no task: a drop of x, the end of its job, or a poll of x in the
--- turn of another task. The task's own end ends its wait for threads and for other tasks.
+-- turn of another task.
 abbrev pub is_taken : ℕ → Source → Event → Report → Bool
 is_taken t x (event.Act a) answer = drops x a
-is_taken t x (event.Turn steps e) (report.Turn me replies end) =
-    takes_in t me x steps replies || (not (fires_in t me x steps replies) && ((is_outside me x || is_peers me x) && is_over end))
+is_taken t x (event.Turn steps e) (report.Turn me replies end) = takes_in t me x steps replies
 is_taken t x e answer = false
 
 -- Whether the wait of t for x is ended in a run by a drop, the end of a job, or a poll by another task.

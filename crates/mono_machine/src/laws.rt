@@ -11,7 +11,7 @@ ghost use Rattle.mono_machine.specs.Handouts.{is_on_task, is_on_job, handed_in};
 ghost use Rattle.mono_model.specs.Valid.{of_task, is_queued};
 ghost use Rattle.mono_machine.specs.Causes.{is_cause, RunWithoutCause};
 ghost use Rattle.mono_machine.specs.Fairness.{turns_of};
-ghost use Rattle.mono_machine.specs.History.{has_turn_of, is_turn_of, is_awaiting, tells_wake, begun_machine};
+ghost use Rattle.mono_machine.specs.History.{has_turn_of, is_turn_of, is_awaiting, is_wake_of, tells_wake, begun_machine};
 ghost use Rattle.mono_machine.specs.Turns.{after_steps};
 ghost use Rattle.mono_model.specs.declared.Ended.{Ended};
 ghost use Rattle.mono_machine.specs.declared.events.TurnStep.{TurnStep};
@@ -72,6 +72,14 @@ pub fn wakes_are_kept()
         Run mid events answers new → has_turn_of t answers ≡ false → has_finished (value_at new.tasks.table t) ≡ false → is_awaiting t new ≡ true }
 {}
 
+/// Shows that a task is queued or in the inbox after each wake that names it, whatever the wake answers, along any run in
+/// which it had no turn and did not finish. The wake may come from outside, be an act, or be a step of a turn.
+pub fn each_wake_reaches_its_task()
+    ensures { (woken : Event) (told : Report) (events : List Event) (answers : List Report) (old mid new : Machine) (t : ℕ) → IsValid old →
+        Step old woken told mid → is_wake_of t woken told ≡ true →
+        Run mid events answers new → has_turn_of t answers ≡ false → has_finished (value_at new.tasks.table t) ≡ false → is_awaiting t new ≡ true }
+{}
+
 /// Shows that the output of a task is handed out at most once: by a poll of its handle, or by its drop.
 pub fn task_hands_out_once()
     ensures { (events : List Event) (answers : List Report) (old new : Machine) (t : ℕ) → IsValid old → Run old events answers new → handed_in (is_on_task t) events answers ≤ 1 }
@@ -119,9 +127,8 @@ pub fn an_end_changes_its_job_alone()
 /// is taken.
 ///
 /// A source fires if a clock step lists its sleep, if a reset of its sleep answers `Elapsed`, or if its task ends with
-/// its handle kept. Threads fire by a wake from outside, other tasks by a wake. A wait is taken by a drop of the source,
-/// by the end of its job, or by a poll of the source in another task's turn. Its own end takes a task's wait for threads
-/// and for other tasks.
+/// its handle kept. A wait is taken by a drop of the source, by the end of its job, or by a poll of the source in another
+/// task's turn.
 pub fn a_watch_stands()
     ensures { (old : Machine) (e : Event) (answer : Report) (new : Machine) (t : ℕ) (x : Source) → IsValid old → Step old e answer new → IsWatched old t x →
         fires t x e answer ≡ false → is_taken t x e answer ≡ false → IsWatched new t x }

@@ -1,5 +1,5 @@
 // Examples of runs of the machine.
-ghost use Rattle.mono_machine.specs.Examples.{DeadlineIsNow, BothRoundings, NoneIsEarly, NoneIsLeftOut, FarSleeps, Ties, WokenInOwnTurn, LatestWaker, EndOfTheType, ClockGoesBack, LateMove, RefusalFirst, RefusalInTheMiddle, NoRoomFirst, RefusalsOfJoin, DoublesInInbox, TwoCauses, NoPool, OnTheCaller, OnAThread, JobsThatEnd, EndOfJobWakesNobody, CanceledIsToldOnce, WakesInOrder, LatestWaiter, LatestWaiterOfJob, NotedTwice, WhoIsListed, FinishesInTheInbox, QueuedStaysInPlace, ResetOfAFreshSleep, DroppedSleepWakesNobody, MovedEarlierIsLast, MovedEarlierKeepsWaker, FinishedTakesRoom, NoHandleTakesRoom, WaitsForItself, TakenHasFinished, DueIsNotElapsed, AscendingTicks, DoneIsNotListed, PollKeepsItsPlace, NoneFiresBeforeAnEarlier, NoneFiresBeforeItsTurn, NoneFiresTwice, WaitsWhileLive, OutsideFires, PeersFire, OwnEndTakes};
+ghost use Rattle.mono_machine.specs.Examples.{DeadlineIsNow, BothRoundings, NoneIsEarly, NoneIsLeftOut, FarSleeps, Ties, WokenInOwnTurn, LatestWaker, EndOfTheType, ClockGoesBack, LateMove, RefusalFirst, RefusalInTheMiddle, NoRoomFirst, RefusalsOfJoin, DoublesInInbox, TwoCauses, NoPool, OnTheCaller, OnAThread, JobsThatEnd, EndOfJobWakesNobody, CanceledIsToldOnce, WakesInOrder, LatestWaiter, LatestWaiterOfJob, NotedTwice, WhoIsListed, FinishesInTheInbox, QueuedStaysInPlace, ResetOfAFreshSleep, DroppedSleepWakesNobody, MovedEarlierIsLast, MovedEarlierKeepsWaker, FinishedTakesRoom, NoHandleTakesRoom, WaitsForItself, TakenHasFinished, DueIsNotElapsed, AscendingTicks, DoneIsNotListed, PollKeepsItsPlace, NoneFiresBeforeAnEarlier, NoneFiresBeforeItsTurn, NoneFiresTwice, WhomAWakeNames};
 
 /// Shows that a sleep whose deadline is now has elapsed at its first poll.
 pub fn deadline_is_now()
@@ -231,22 +231,7 @@ pub fn none_fires_twice()
     ensures { NoneFiresTwice }
 {}
 
-/// Shows that a task waits for threads and for other tasks until it has finished.
-pub fn waits_while_live()
-    ensures { WaitsWhileLive }
-{}
-
-/// Shows that a wake from outside fires the threads that hold a waker of its task, and no other source.
-pub fn outside_fires()
-    ensures { OutsideFires }
-{}
-
-/// Shows that a wake by another task fires for the task that it wakes.
-pub fn peers_fire()
-    ensures { PeersFire }
-{}
-
-/// Shows that its own end takes the wait of a task for threads and for other tasks.
-pub fn own_end_takes()
-    ensures { OwnEndTakes }
+/// Shows that a wake is one of the task that it names, whatever it answers, and that a refused turn wakes nobody.
+pub fn whom_a_wake_names()
+    ensures { WhomAWakeNames }
 {}

@@ -9,13 +9,14 @@ use Rattle.mono_machine.specs.Acts.{step_outcome}
 use Rattle.mono_machine.specs.Turns.{after_steps}
 use Rattle.mono_machine.specs.Steps.{Step}
 use Rattle.mono_machine.specs.History.{begun_machine, is_awaiting}
-use Rattle.mono_machine.specs.Watches.{Source, watcher, IsWatched, Hears, drops_in, is_stirred_in}
+use Rattle.mono_machine.specs.Watches as machine
+use Rattle.mono_machine.specs.Watches.{watcher, IsWatched, Hears, drops_in, is_stirred_in}
 use Rattle.mono_machine.specs.declared.events.TurnStep.{TurnStep}
 use Rattle.mono_machine.specs.declared.events.End.TheVariants as end
 use Rattle.mono_machine.specs.declared.events.Event.TheVariants as event
 use Rattle.mono_machine.specs.declared.events.Reply.{Reply}
 use Rattle.mono_machine.specs.declared.events.Report.TheVariants as report
-use Rattle.mono_wait.specs.Sources.{Heard}
+use Rattle.mono_wait.specs.Sources.{Source, in_machine, Heard}
 use Rattle.mono_wait.specs.Sources as heard
 use Rattle.mono_wait.specs.Registers.{Registers}
 use Rattle.mono_wait.specs.PendingTurns.{TurnRegisters}
@@ -27,13 +28,13 @@ steps_on me (s ∷ before) after m = steps_on me before after (step_outcome me s
 module _ {C : Type 0} (number : C → ℕ) (work : C → Tasks ⊤) (reaches : C → C → Type 0) (tells : C → Source → Option ℕ) (stands : C → Machine → Type 0)
     (same_number : (a b : C) → reaches a b → number b ≡ number a)
     (leads : (a b : C) → reaches a b → (steps : List TurnStep) × ((m : Machine) → stands a m → stands b (after_steps (number a) steps m)))
-    (same_watcher : (c : C) (m : Machine) (x : Source) (t : ℕ) → stands c m → tells c x ≡ Some t → watcher m x ≡ Some t)
+    (same_watcher : (c : C) (m : Machine) (x : machine.Source) (t : ℕ) → stands c m → tells c (in_machine x) ≡ Some t → watcher m x ≡ Some t)
     (same_stirred : (c : C) (m : Machine) → stands c m → is_stirred_in (value_at (work c).table (number c)) ≡ is_stirred_in (value_at m.tasks.table (number c))) where
-  pub hears_in : (t : ℕ) (c : C) (m : Machine) (x : Source) → number c ≡ t → stands c m → heard.Hears number work reaches tells c x → Hears m t x
+  pub hears_in : (t : ℕ) (c : C) (m : Machine) (x : machine.Source) → number c ≡ t → stands c m → heard.Hears number work reaches tells c (in_machine x) → Hears m t x
   hears_in t c m x same st (inl is) = inl (same_watcher c m x t st (is ∙ ap Some same))
   hears_in t c m x same st (inr is) = inr (subst (λ n. is_stirred_in (value_at m.tasks.table n) ≡ true) same (sym (same_stirred c m st) ∙ is))
 
-  pub registers : TurnRegisters → (c d : C) (x : Source) → Heard number work reaches tells c d x → Registers stands number c d x
+  pub registers : TurnRegisters → (c d : C) (x : machine.Source) → Heard number work reaches tells c d (in_machine x) → Registers stands number c d x
   registers law c d x it = record {
     before = first.0;
     since = last.0;

@@ -33,8 +33,9 @@ use Rattle.mono_rt.specs.Turns.{Turn, Runs, UnlessSpent, Polls, Pauses, AfterPol
 use Rattle.mono_rt.specs.Stores.{Store}
 use Rattle.mono_rt.specs.FuturePolls.{TellsTurn}
 use Rattle.mono_rt.specs.declared.contexts.Cx.{Cx}
-use Rattle.mono_machine.specs.Watches.{Source, IsWatched, Hears, drops_in}
-use Rattle.mono_wait.specs.Sources.{Covers, Heard}
+use Rattle.mono_machine.specs.Watches as machine
+use Rattle.mono_machine.specs.Watches.{IsWatched, Hears, drops_in}
+use Rattle.mono_wait.specs.Sources.{Source, in_machine, machine_needs, Covers, Heard}
 use Rattle.mono_wait.specs.Runtime.{cx_watcher, parts_same_watcher, parts_same_stirred}
 use Rattle.mono_wait.specs.PendingTurns.{TurnRegisters, LeavesAt, LeavesWaiting}
 use Rattle.mono_wait.proofs.RegistrationLemmas.{hears_in}
@@ -60,9 +61,9 @@ inside_of table t v at = elim (cases_lt t (length table)) [
 
 module _ {F O P U W J A V : Type 0} (number : O → ℕ) (sharing : SharedOf W) (future : FutureOf F (Cx F O P U W J A V) O) (needs : F → Source → Type 0)
     (covers : (f : F) (c : Cx F O P U W J A V) (g : F) (d : Cx F O P U W J A V) → future.polls f c Pending g d
-    → Covers (λ c. c.parts.me) (λ c. without_outputs c.parts.tasks.tasks) (ReachesSharing number sharing) (cx_watcher sharing.names) c d (needs g)) where
+    → Covers (λ c. c.parts.me) (λ c. without_outputs c.parts.tasks.tasks) (ReachesSharing number sharing) (cx_watcher sharing.lists sharing.names) c d (needs g)) where
   abbrev HeardIn : Cx F O P U W J A V → Cx F O P U W J A V → Source → Type 0
-  HeardIn = Heard (λ c. c.parts.me) (λ c. without_outputs c.parts.tasks.tasks) (ReachesSharing number sharing) (cx_watcher sharing.names)
+  HeardIn = Heard (λ c. c.parts.me) (λ c. without_outputs c.parts.tasks.tasks) (ReachesSharing number sharing) (cx_watcher sharing.lists sharing.names)
 
   never_ready : (output : O) → end.Pending ≡ end.Ready (number output) → ⊥
   never_ready output e = cc
@@ -94,7 +95,7 @@ module _ {F O P U W J A V : Type 0} (number : O → ℕ) (sharing : SharedOf W) 
   module _ (law : TurnRegisters) (has_timers : Bool) (m : Machine) (store : Store F W) (reading : ℕ) (steps : List TurnStep) (answer : Report) (lefts : Store F W)
       (t : TellsTurn number sharing future has_timers m store reading steps end.Pending answer lefts) where
     module _ (f : F) (p : IsPaused t.task f t.ended t.turn.begun t.after) where
-      module _ (x : Source) (it : HeardIn t.turn.begun p.middle x) where
+      module _ (x : machine.Source) (it : HeardIn t.turn.begun p.middle (in_machine x)) where
         abbrev b : List TurnStep
         b = it.before.parts.steps
 
@@ -113,8 +114,8 @@ module _ {F O P U W J A V : Type 0} (number : O → ℕ) (sharing : SharedOf W) 
 
         hears : (rest : List ℕ) → m.tasks.queue ≡ t.task ∷ rest → Hears (after_steps t.task b (begun_machine m.tasks.queue m)) t.task x
         hears rest queue =
-            hears_in (λ c. c.parts.me) (λ c. without_outputs c.parts.tasks.tasks) (ReachesSharing number sharing) (cx_watcher sharing.names) (λ c n. Matches number hosting_of c.parts n)
-            (λ c d r. r.parts.same_me) (λ c d r. (r.parts.steps, r.parts.leads)) (λ c n y u st is. parts_same_watcher number hosting_of c.parts n c.has_handed_out (sharing.names c.shared) y u st is) (λ c n st. parts_same_stirred number hosting_of c.parts n c.parts.me st)
+            hears_in (λ c. c.parts.me) (λ c. without_outputs c.parts.tasks.tasks) (ReachesSharing number sharing) (cx_watcher sharing.lists sharing.names) (λ c n. Matches number hosting_of c.parts n)
+            (λ c d r. r.parts.same_me) (λ c d r. (r.parts.steps, r.parts.leads)) (λ c n y u st is. parts_same_watcher number hosting_of c.parts n c.has_handed_out (sharing.lists c.shared) (sharing.names c.shared) y u st is) (λ c n st. parts_same_stirred number hosting_of c.parts n c.parts.me st)
             t.task it.moment (after_steps t.task b (begun_machine m.tasks.queue m)) x (it.before.parts.same_me ∙ me)
             (subst (λ q. Matches number hosting_of it.moment.parts (after_steps t.task b (begun_machine q m))) (sym queue)
             (subst (λ n. Matches number hosting_of it.moment.parts (after_steps n b (after_begin t.task rest m))) me
@@ -138,7 +139,7 @@ module _ {F O P U W J A V : Type 0} (number : O → ℕ) (sharing : SharedOf W) 
           let paid : length p.paid.futures.items ≡ length p.middle.futures.items = ap (λ f. length f.items) p.pays.paying.same_futures in
           ap (λ fs. value_at fs t.task) (sym t.has ∙ p.pauses.futures) ∙ get_or-set_same p.paid.futures.items t.task (Some p.left) None (omega (arith, had, same, paid, p.reached.grows))
 
-    pub leaves_waiting : LeavesWaiting (λ f. future.is_spent f ≡ false) needs m store.futures lefts.futures steps answer
+    pub leaves_waiting : LeavesWaiting (λ f. future.is_spent f ≡ false) (machine_needs needs) m store.futures lefts.futures steps answer
     leaves_waiting = record {
       task = t.task;
       replies = t.after.parts.acts.replies;
@@ -146,5 +147,5 @@ module _ {F O P U W J A V : Type 0} (number : O → ℕ) (sharing : SharedOf W) 
       told = t.told;
       waits = λ f at unspent.
           let p : IsPaused t.task f t.ended t.turn.begun t.after = by_future (value_at t.before.futures.items t.task) f (ap (λ fs. value_at fs t.task) t.had ∙ at) unspent t.task t.ended t.turn.begun t.after t.turn.runs in
-          (p.left, goes_back f p at, λ x needed. leaves_at f p x ((covers f t.turn.begun p.left p.middle p.polled).each x needed));
+          (p.left, goes_back f p at, λ x needed. leaves_at f p x ((covers f t.turn.begun p.left p.middle p.polled).each (in_machine x) needed));
     }

@@ -1,6 +1,5 @@
 -- A pending future over a lock, a barrier, a cell or a broadcast is in its queue with the running task, at its ticket.
 use Rattle.std.specs.Prelude.{◌≡◌, ◌==◌, ◌&&◌, ◌||◌, MatchBool, ℕ, ⊤, Bool, true, false, List, [], ◌∷◌, ◌++◌, Option, Some, None, Ok}
-use Rattle.std.specs.List.{list_any}
 use Rattle.std.proofs.Common.{inl, inr, cond, sym, ap, ◌∙◌, refl, eq-eqb}
 use Rattle.mono_model.specs.Tasks.{Tasks}
 use Rattle.mono_model.specs.declared.poll.Poll.TheVariants.{Pending}
@@ -27,20 +26,15 @@ use Rattle.mono_locks.specs.Broadcasts.{Receives}
 use Rattle.mono_locks.specs.Mutexes.{free, Locks}
 use Rattle.mono_locks.specs.OnceCells.{has_some, room_of, TakesTurn, Inits}
 use Rattle.mono_locks.specs.Polls.{AskPolls}
-use Rattle.mono_locks.specs.Queues.{waits_at, has_task, holder_of, has_room, Fits, Comes, ComesOf, Marks, Joins, Asks, IfGot, Leaves}
+use Rattle.mono_locks.specs.Queues.{waits_at, holder_of, has_room, Fits, Comes, ComesOf, Marks, Joins, Asks, IfGot, Leaves}
 use Rattle.mono_locks.specs.RwLocks.{room, Reads, Writes}
-use Rattle.mono_wait.specs.ListedTasks.{false-true, none-some, same_some, same_number, or_left, or_right, or_either, and_right, both}
+use Rattle.mono_wait.specs.ListedTasks.{none-some, same_some, same_number, or_left, or_right, both}
 
 waits-set : {T : Type 0} (i : Init T) → asked.Waits ≡ asked.Got i → ⊥
 waits-set i e = cc
 
 joined-set : {T : Type 0} (k : ℕ) (i : Init T) → asked.Joined k ≡ asked.Got i → ⊥
 joined-set k i e = cc
-
--- who waits at a ticket waits
-waits_some : (ws : List Entry) (k t : ℕ) → waits_at ws k t ≡ true → list_any (λ w. w.task == t) ws ≡ true
-waits_some [] k t is = absurd (false-true is)
-waits_some (w ∷ ws) k t is = or_either ((w.ticket == k) && (w.task == t)) (waits_at ws k t) (w.task == t) (list_any (λ v. v.task == t) ws) (and_right (w.ticket == k) (w.task == t)) (waits_some ws k t) is
 
 -- the task of the future with a ticket
 holder_waits : (ws : List Entry) (k t : ℕ) → holder_of ws k ≡ Some t → waits_at ws k t ≡ true
@@ -59,9 +53,6 @@ last_waits (v ∷ ws) w k t at is = or_right ((v.ticket == k) && (v.task == t)) 
 -- The future has a ticket, and this task waits in the queue with it.
 abbrev pub Queued : Queue → Option ℕ → ℕ → Type 0
 Queued a ticket task = (k : ℕ) × (ticket ≡ Some k) × (waits_at a.waiters.items k task ≡ true)
-
-pub queue_names : (a : Queue) (ticket : Option ℕ) (task : ℕ) → Queued a ticket task → has_task a task ≡ true
-queue_names a ticket task (k, at, waits) = waits_some a.waiters.items k task waits
 
 -- this is its only ticket
 pub queued_at : (a : Queue) (ticket : Option ℕ) (task : ℕ) → Queued a ticket task → (k : ℕ) → ticket ≡ Some k → waits_at a.waiters.items k task ≡ true

@@ -4,8 +4,8 @@ use Rattle.mono_model.specs.Tasks.{Tasks, woken}
 use Rattle.mono_model.specs.Poll.{OnPending}
 use Rattle.mono_model.specs.declared.poll.Poll.{Poll}
 use Rattle.mono_model.specs.declared.poll.Poll.TheVariants.{Pending}
-use Rattle.mono_machine.specs.Watches.{Source, of_task, is_stirred_in}
-use Rattle.mono_wait.specs.Sources.{Covers, Heard}
+use Rattle.mono_machine.specs.Watches.{is_stirred_in}
+use Rattle.mono_wait.specs.Sources.{Source, Covers}
 use Rattle.mono_wait.specs.declared.countdown.Countdown.{Countdown}
 use Rattle.std.proofs.Common.{inr, sym, ap, ◌∙◌, subst}
 use Rattle.mono_wait.specs.WakeEffects.{stirs}
@@ -20,8 +20,7 @@ module _ {C : Type 0} (number : C → ℕ) (work : C → Tasks ⊤) (reaches : C
     -- once pending it has woken its own task
     pub counts : (f : Countdown) (c : C) (g : Countdown) (d : C) → CountdownPolls f c Pending g d → Covers number work reaches watcher c d (λ x. ⊥)
     counts f c g d p = record {
-      some = of_task 0;
-      armed = record { moment = d; before = p.reached; hears = inr (subst (λ n. is_stirred_in (value_at (work d).table n) ≡ true) (sym (same_number c d p.reached)) (subst (λ w. is_stirred_in (value_at w.table (number c)) ≡ true) (sym p.wakes) (stirs (work c) (number c)))); since = itself d };
+      one = inr (record { moment = d; before = p.reached; stirred = subst (λ n. is_stirred_in (value_at (work d).table n) ≡ true) (sym (same_number c d p.reached)) (subst (λ w. is_stirred_in (value_at w.table (number c)) ≡ true) (sym p.wakes) (stirs (work c) (number c))); since = itself d });
       each = λ x none. absurd none;
     }
 

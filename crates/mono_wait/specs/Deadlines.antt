@@ -13,8 +13,7 @@ use Rattle.mono_time.specs.Timeouts.{TimeoutPolls, TimeoutCancels, AfterValue, l
 use Rattle.mono_time.specs.declared.sleeps.Sleep.{Sleep}
 use Rattle.mono_time.specs.declared.timeouts.Timeout.{Timeout}
 use Rattle.mono_time.specs.declared.error.TimeoutError.{TimeoutError}
-use Rattle.mono_machine.specs.Watches.{Source, of_sleep}
-use Rattle.mono_wait.specs.Sources.{Covers, Heard, heard_on, waker_in}
+use Rattle.mono_wait.specs.Sources.{Source, of_sleep, Covers, Heard, heard_on, waker_in}
 use Rattle.mono_wait.specs.Leaves.{SleepNeeds, sleeps_cover}
 
 -- the sources of its value, and its delay
@@ -59,8 +58,7 @@ module _ {T C O : Type 0} (future : FutureOf T C O) (number : C → ℕ) (sleeps
     cover_both f c g d p =
         let late : Covers number work reaches watcher p.middle d (SleepNeeds g.delay) = sleeps_cover number sleeps work reaches watcher itself same_number watches f.delay p.middle g.delay d p.delay
         in record {
-          some = late.some;
-          armed = heard_on number work reaches watcher on c p.middle d d late.some (reach f.value c Pending g.value p.middle p.value) late.armed (itself d);
+          one = inl (of_sleep g.delay.number, inr refl);
           each = λ x is. elim is [
             | inl value ↦ heard_on number work reaches watcher on c c p.middle d x (itself c) ((covers f.value c g.value p.middle p.value).each x value) p.delay.reached
             | inr delay ↦ heard_on number work reaches watcher on c p.middle d d x (reach f.value c Pending g.value p.middle p.value) (late.each x delay) (itself d)

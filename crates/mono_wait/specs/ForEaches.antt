@@ -8,8 +8,9 @@ use Rattle.mono_model.specs.declared.task_error.TaskError.{TaskError}
 use Rattle.mono_model.specs.declared.poll.Poll.{Poll}
 use Rattle.mono_model.specs.declared.poll.Poll.TheVariants.{Ready, Pending}
 use Rattle.mono_stream.specs.ForEaches.{Polls, Items, Last, Handles, AfterHandled}
-use Rattle.mono_machine.specs.Watches.{Source, of_task, is_stirred_in}
-use Rattle.mono_wait.specs.Frames.{Frame, HeardIn, CoversIn, same_reached, covers_after}
+use Rattle.mono_machine.specs.Watches.{is_stirred_in}
+use Rattle.mono_wait.specs.Sources.{Source, woke_heard}
+use Rattle.mono_wait.specs.Frames.{Frame, WokeIn, CoversIn, same_reached, covers_after}
 
 -- A pending poll stopped at an item that waits, or woke its task after as many items as one poll may handle.
 by_stop : {S C : Type 0} (polls : Polls S C) (number : C → ℕ) (wakes : C → ℕ → Result Woke TaskError → C → Type 0) (P : Type 0) (stop : _) (n : ℕ) (before : S) (m : C) (t : S) (e : C) (ended : Bool) (d : C)
@@ -29,15 +30,14 @@ module _ {S C : Type 0} (w : Frame C) (polls : Polls S C) (reach : (s : S) (c : 
         subst (λ n. is_stirred_in (value_at (w.work d).table n) ≡ true) (sym (same_number c d reached))
         (subst (λ n. is_stirred_in (value_at (w.work d).table n) ≡ true) (same_number c m first) (stirs m d (w.number m) woke wake))
 
-    many_heard : (c m d : C) (woke : Result Woke TaskError) → w.reaches c m → w.reaches c d → wakes m (w.number m) woke d → (x : Source) → HeardIn w c d x
-    many_heard c m d woke first reached wake x = record { moment = d; before = reached; hears = inr (stirred c m d woke first reached wake); since = w.itself d }
+    many_woke : (c m d : C) (woke : Result Woke TaskError) → w.reaches c m → w.reaches c d → wakes m (w.number m) woke d → WokeIn w c d
+    many_woke c m d woke first reached wake = record { moment = d; before = reached; stirred = stirred c m d woke first reached wake; since = w.itself d }
 
     -- So each source is heard.
     many_cover : (c m d : C) (needs : Source → Type 0) (woke : Result Woke TaskError) → w.reaches c m → w.reaches c d → wakes m (w.number m) woke d → CoversIn w c d needs
     many_cover c m d needs woke first reached wake = record {
-      some = of_task 0;
-      armed = many_heard c m d woke first reached wake (of_task 0);
-      each = λ x is. many_heard c m d woke first reached wake x;
+      one = inr (many_woke c m d woke first reached wake);
+      each = λ x is. woke_heard w.number w.work w.reaches w.watcher c d x (many_woke c m d woke first reached wake);
     }
 
     pub for_eaches_cover : (needs : S → Source → Type 0) → ((s : S) (c : C) (t : S) (d : C) → polls s c Pending t d → CoversIn w c d (needs t)) → (stop : _) (s : S) (c : C) (t : S) (m : C) (ended : Bool) (d : C) → Handles polls s c stop t m

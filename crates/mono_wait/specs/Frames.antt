@@ -5,8 +5,7 @@ use Rattle.mono_model.specs.Tasks.{Tasks}
 use Rattle.mono_model.specs.declared.poll.Poll.{Poll}
 use Rattle.mono_model.specs.declared.poll.Poll.TheVariants.{Pending}
 use Rattle.mono_task.specs.Members.{FutureOf}
-use Rattle.mono_machine.specs.Watches.{Source}
-use Rattle.mono_wait.specs.Sources.{Covers, Heard, heard_on}
+use Rattle.mono_wait.specs.Sources.{Source, Covers, NeedsOne, Heard, Woke, heard_on, woke_on}
 
 -- What a context exposes of its running task, of its waiting tasks, and of the contexts that its calls reach.
 pub record Frame (C : Type 0) : Type 1 where
@@ -28,6 +27,12 @@ module _ {C : Type 0} (w : Frame C) where
   abbrev pub CoversIn : C → C → (Source → Type 0) → Type 0
   CoversIn = Covers w.number w.work w.reaches w.watcher
 
+  abbrev pub WokeIn : C → C → Type 0
+  WokeIn = Woke w.number w.work w.reaches
+
+  abbrev pub OneIn : C → C → (Source → Type 0) → Type 0
+  OneIn = NeedsOne w.number w.work w.reaches
+
   -- no call was made
   pub same_reached : (c d : C) → d ≡ c → w.reaches c d
   same_reached c d is = subst (w.reaches c) (sym is) (w.itself c)
@@ -38,27 +43,37 @@ module _ {C : Type 0} (w : Frame C) where
   pub heard_after : (c m d : C) (x : Source) → w.reaches c m → HeardIn m d x → HeardIn c d x
   heard_after c m d x first it = heard_on w.number w.work w.reaches w.watcher w.on c m d d x first it (w.itself d)
 
+  pub woke_before : (c m d : C) → WokeIn c m → w.reaches m d → WokeIn c d
+  woke_before c m d woke more = woke_on w.number w.work w.reaches w.on c c m d (w.itself c) woke more
+
+  pub woke_after : (c m d : C) → w.reaches c m → WokeIn m d → WokeIn c d
+  woke_after c m d first woke = woke_on w.number w.work w.reaches w.on c m d d first woke (w.itself d)
+
+  -- The needs may grow, and calls may come after it or before it.
+  pub one_before : (c m d : C) (few needs : Source → Type 0) → ((x : Source) → few x → needs x) → OneIn c m few → w.reaches m d → OneIn c d needs
+  one_before c m d few needs more one since = elim one [ inl it ↦ inl (it.0, more it.0 it.1) | inr woke ↦ inr (woke_before c m d woke since) ]
+
+  pub one_after : (c m d : C) (few needs : Source → Type 0) → ((x : Source) → few x → needs x) → w.reaches c m → OneIn m d few → OneIn c d needs
+  one_after c m d few needs more first one = elim one [ inl it ↦ inl (it.0, more it.0 it.1) | inr woke ↦ inr (woke_after c m d first woke) ]
+
   -- calls came before the poll that covers its sources
   pub covers_after : (c m d : C) (needs : Source → Type 0) → w.reaches c m → CoversIn m d needs → CoversIn c d needs
   covers_after c m d needs first it = record {
-    some = it.some;
-    armed = heard_after c m d it.some first it.armed;
+    one = one_after c m d needs needs (λ x is. is) first it.one;
     each = λ x is. heard_after c m d x first (it.each x is);
   }
 
   -- calls came after it
   pub covers_before : (c m d : C) (needs : Source → Type 0) → CoversIn c m needs → w.reaches m d → CoversIn c d needs
   covers_before c m d needs it more = record {
-    some = it.some;
-    armed = heard_before c m d it.some it.armed more;
+    one = one_before c m d needs needs (λ x is. is) it.one more;
     each = λ x is. heard_before c m d x (it.each x is) more;
   }
 
   -- two polls in turn
   pub covers_both : (c m d : C) (first second : Source → Type 0) → w.reaches c m → CoversIn c m first → w.reaches m d → CoversIn m d second → CoversIn c d (λ x. first x ⊎ second x)
   covers_both c m d first second reached one more two = record {
-    some = one.some;
-    armed = heard_before c m d one.some one.armed more;
+    one = one_before c m d first (λ x. first x ⊎ second x) (λ x is. inl is) one.one more;
     each = λ x is. elim is [
       | inl a ↦ heard_before c m d x (one.each x a) more
       | inr b ↦ heard_after c m d x reached (two.each x b)

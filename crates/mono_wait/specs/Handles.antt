@@ -8,8 +8,7 @@ use Rattle.mono_model.specs.declared.poll.Poll.{Poll}
 use Rattle.mono_model.specs.declared.poll.Poll.TheVariants.{Pending}
 use Rattle.mono_model.specs.declared.task_error.TaskError.{TaskError}
 use Rattle.mono_task.specs.Work.{without_outputs}
-use Rattle.mono_machine.specs.Watches.{Source, of_task}
-use Rattle.mono_wait.specs.Sources.{Covers, Heard, waiter_in}
+use Rattle.mono_wait.specs.Sources.{Source, of_task, Covers, Heard, waiter_in}
 use Rattle.mono_wait.specs.JoinPolls.{pending_joins, same_waiter}
 
 module _ {C O : Type 0} (number : C → ℕ) (tasks : C → Tasks O) (work : C → Tasks ⊤) (reaches : C → C → Type 0) (watcher : C → Source → Option ℕ)
@@ -26,7 +25,6 @@ module _ {C O : Type 0} (number : C → ℕ) (tasks : C → Tasks O) (work : C �
   -- once pending, the running task waits for the output
   pub handles_cover : (h : ℕ) (c d : C) → Ok Pending ≡ join_answer (tasks c) h → tasks d ≡ joined (tasks c) h (number c) → reaches c d → Covers number work reaches watcher c d (λ x. x ≡ of_task h)
   handles_cover h c d told after reached = record {
-    some = of_task h;
-    armed = handle_heard h c d told after reached;
+    one = inl (of_task h, refl);
     each = λ x is. subst (Heard number work reaches watcher c d) (sym is) (handle_heard h c d told after reached);
   }

@@ -10,7 +10,7 @@ use Rattle.mono_model.specs.Poll.{call_of}
 use Rattle.mono_model.specs.declared.poll.Poll.{Poll}
 use Rattle.mono_model.specs.declared.poll.Poll.TheVariants.{Ready, Pending}
 use Rattle.mono_machine.specs.JobCalls.{kept_value, poll_in, poll_value, poll_answer, polled_value, job_polled}
-use Rattle.mono_machine.specs.Watches.{Source, of_job, job_waiter}
+use Rattle.mono_machine.specs.Watches.{job_waiter}
 use Rattle.mono_machine.specs.declared.events.Blocking.{Blocking}
 use Rattle.mono_machine.specs.declared.events.Refusal.{Refusal}
 use Rattle.mono_machine.specs.declared.events.Refusal.TheVariants as refusal
@@ -27,6 +27,7 @@ use Rattle.mono_blocking.specs.declared.runs.JobError.{JobError}
 use Rattle.mono_blocking.specs.declared.runs.JobError.TheVariants.{Spawn}
 use Rattle.mono_blocking.specs.declared.runs.RunJob.{RunJob}
 use Rattle.mono_blocking.specs.declared.runs.RunJob.TheVariants.{Fresh, Waits, Over}
+use Rattle.mono_wait.specs.Sources.{Source, of_job}
 use Rattle.mono_wait.specs.Frames.{Frame, HeardIn, CoversIn, same_reached, covers_after}
 
 abbrev pub JobNeeds : JobHandle → Source → Type 0
@@ -95,8 +96,7 @@ module _ {A C : Type 0} (w : Frame C) (number : A → ℕ) (jobs : C → Jobs) (
     -- once pending, the running task waits for the job
     pub jobs_cover : (h : JobHandle) (c d : C) → PollsOutput number (w.number c) h.job (Ok Pending) (jobs c) (jobs d) (is_out_of_memory d) → w.reaches c d → CoversIn w c d (JobNeeds h)
     jobs_cover h c d asked reached = record {
-      some = of_job h.job;
-      armed = job_heard h.job c d asked reached;
+      one = inl (of_job h.job, refl);
       each = λ x is. subst (HeardIn w c d) (sym is) (job_heard h.job c d asked reached);
     }
 

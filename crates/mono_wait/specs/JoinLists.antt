@@ -14,9 +14,9 @@ use Rattle.mono_combine.specs.BranchLists.{EachInTurn, GivesUp, AllCancel, AllGo
 use Rattle.mono_combine.specs.Rules.{error_of, value_of, unless_failed, join_rule, try_join_rule}
 use Rattle.mono_combine.specs.TryJoins.{failure_of, both_results, as_result_list, AdvancesUnless, BothCancel, TryJoinPolls, TryJoinCancels}
 use Rattle.mono_combine.specs.TryLists.{has_failed, Trying, TriesOnce, TryJoinListPolls}
-use Rattle.mono_machine.specs.Watches.{Source}
+use Rattle.mono_wait.specs.Sources.{Source}
 use Rattle.mono_wait.specs.Joins.{MaybeNeeds, MaybeCovers, maybe_left, advance_reached, advance_covers}
-use Rattle.mono_wait.specs.Frames.{Frame, Part, Needs, HeardIn, CoversIn, same_reached, heard_before, heard_after, covers_before, covers_after, covers_both}
+use Rattle.mono_wait.specs.Frames.{Frame, Part, Needs, HeardIn, CoversIn, OneIn, same_reached, heard_before, heard_after, one_before, one_after}
 
 -- those of each unfinished branch
 abbrev pub ListNeeds : {T O : Type 0} → Needs T → List (MaybeDone T O) → Source → Type 0
@@ -75,17 +75,17 @@ module _ {C T O : Type 0} (w : Frame C) (future : FutureOf T C O) (part : Part w
     | inr later ↦ heard_after w c middle d x (one_reached m c n middle turn) (each_hears ms middle ns d rest x later)
   ]
 
-  abbrev Armed : C → C → Type 0
-  Armed c d = (x : Source) × HeardIn w c d x
+  abbrev ListOne : C → List (MaybeDone T O) → C → Type 0
+  ListOne c ns d = OneIn w c d (ListNeeds part.needs ns)
 
-  -- the first branch is registered, or one after it
-  arms_first : (c m d : C) (n : MaybeDone T O) (ns : List (MaybeDone T O)) → w.reaches c m → w.reaches m d → (list_any is_none (map output_of ns) ≡ true → Armed m d) → OneCovers c n m
-      → list_any is_none (map output_of (n ∷ ns)) ≡ true → Armed c d
-  arms_first c m d (Future f) ns to more later covered is = (covered.some, heard_before w c m d covered.some covered.armed more)
-  arms_first c m d (Done y) ns to more later covered is = let it : Armed m d = later is in (it.0, heard_after w c m d it.0 to it.1)
+  -- the first branch waits, or one after it
+  arms_first : (c m d : C) (n : MaybeDone T O) (ns : List (MaybeDone T O)) → w.reaches c m → w.reaches m d → (list_any is_none (map output_of ns) ≡ true → ListOne m ns d) → OneCovers c n m
+      → list_any is_none (map output_of (n ∷ ns)) ≡ true → ListOne c (n ∷ ns) d
+  arms_first c m d (Future f) ns to more later covered is = one_before w c m d (part.needs f) (ListNeeds part.needs (Future f ∷ ns)) (λ x needed. inl needed) covered.one more
+  arms_first c m d (Done y) ns to more later covered is = one_after w c m d (ListNeeds part.needs ns) (ListNeeds part.needs (Done y ∷ ns)) (λ x needed. inr needed) to (later is)
   arms_first c m d Gone ns to more later covered is = absurd covered
 
-  each_arms : (ms : List (MaybeDone T O)) (c : C) (ns : List (MaybeDone T O)) (d : C) → EachInTurn (Advances future) ms c ns d → list_any is_none (map output_of ns) ≡ true → Armed c d
+  each_arms : (ms : List (MaybeDone T O)) (c : C) (ns : List (MaybeDone T O)) (d : C) → EachInTurn (Advances future) ms c ns d → list_any is_none (map output_of ns) ≡ true → ListOne c ns d
   each_arms [] c [] d q some = absurd (no_true some)
   each_arms [] c (n ∷ ns) d q some = absurd q
   each_arms (m ∷ ms) c [] d q some = absurd q
@@ -94,7 +94,7 @@ module _ {C T O : Type 0} (w : Frame C) (future : FutureOf T C O) (part : Part w
 
   -- if one branch is unfinished, all that the unfinished ones need is heard
   pub each_covers : (ms : List (MaybeDone T O)) (c : C) (ns : List (MaybeDone T O)) (d : C) → EachInTurn (Advances future) ms c ns d → list_any is_none (map output_of ns) ≡ true → CoversIn w c d (ListNeeds part.needs ns)
-  each_covers ms c ns d turns some = let it : Armed c d = each_arms ms c ns d turns some in record { some = it.0; armed = it.1; each = each_hears ms c ns d turns }
+  each_covers ms c ns d turns some = record { one = each_arms ms c ns d turns some; each = each_hears ms c ns d turns }
 
   pub join_list_reached : (ms : List (MaybeDone T O)) (c : C) (r : Poll (List O)) (ns : List (MaybeDone T O)) (b : Bool) (d : C) → JoinListPolls future ms c r ns b d → w.reaches c d
   join_list_reached ms c r ns b d q = each_reached ms c q.polled d q.turns
@@ -190,8 +190,7 @@ module _ {C A B X Y E : Type 0} (w : Frame C) (a : FutureOf A C (Result X E)) (b
   two_cover : (c m d : C) (first : MaybeDone A (Result X E)) (before second : MaybeDone B (Result Y E)) → w.reaches c m → MaybeCovers a w.number w.work w.reaches w.watcher p.needs c first m
       → AdvancesUnless b (is_some (failure_of first)) before m second d → Pending ≡ try_join_rule (both_results (output_of first) (output_of second)) → Covered c d first second
   two_cover c m d (Future f) before second reached one turn told = record {
-    some = one.some;
-    armed = heard_before w c m d one.some one.armed more;
+    one = one_before w c m d (p.needs f) (λ x. MaybeNeeds p.needs (Future f) x ⊎ MaybeNeeds q.needs second x) (λ x is. inl is) one.one more;
     each = λ x is. elim is [
       | inl left ↦ heard_before w c m d x (one.each x left) more
       | inr right ↦ heard_after w c m d x reached (one_hears w b q m second d (b_covers before m second d turn) x right)
@@ -204,8 +203,7 @@ module _ {C A B X Y E : Type 0} (w : Frame C) (a : FutureOf A C (Result X E)) (b
     where
       by_second : (s : MaybeDone B (Result Y E)) → MaybeCovers b w.number w.work w.reaches w.watcher q.needs m s d → Pending ≡ try_join_rule (both_results (ok_first x) (output_of s)) → Covered c d (Done (Ok x)) s
       by_second (Future g) two is = record {
-        some = two.some;
-        armed = heard_after w c m d two.some reached two.armed;
+        one = one_after w c m d (q.needs g) (λ z. MaybeNeeds p.needs (Done (Ok x)) z ⊎ MaybeNeeds q.needs (Future g) z) (λ z is. inr is) reached two.one;
         each = λ z needed. elim needed [ inl none ↦ absurd none | inr right ↦ heard_after w c m d z reached (two.each z right) ];
       }
       by_second (Done y) two is = absurd (both_end x y is)

@@ -12,8 +12,7 @@ use Rattle.mono_combine.specs.declared.joins.Join2.{Join2}
 use Rattle.mono_combine.specs.Branches.{Advances, AfterBranch, MaybePolls, MaybeCancels, is_waiting, output_of}
 use Rattle.mono_combine.specs.Joins.{JoinPolls, JoinCancels, both}
 use Rattle.mono_combine.specs.Rules.{join_rule}
-use Rattle.mono_machine.specs.Watches.{Source}
-use Rattle.mono_wait.specs.Sources.{Covers, Heard, heard_on}
+use Rattle.mono_wait.specs.Sources.{Source, Covers, Heard, heard_on, woke_on}
 
 abbrev pub MaybeNeeds : {F O : Type 0} → (F → Source → Type 0) → MaybeDone F O → Source → Type 0
 MaybeNeeds needs (Future f) x = needs f x
@@ -101,13 +100,11 @@ module _ {C A B X Y : Type 0} (number : C → ℕ) (work : C → Tasks ⊤) (rea
   pub two_cover : (first : MaybeDone A X) (second : MaybeDone B Y) → MaybeCovers a number work reaches watcher a_needs c first middle → MaybeCovers b number work reaches watcher b_needs middle second d
       → Pending ≡ join_rule (both (output_of first) (output_of second)) → Covers number work reaches watcher c d (λ x. MaybeNeeds a_needs first x ⊎ MaybeNeeds b_needs second x)
   two_cover (Future f) second one two told = record {
-    some = one.some;
-    armed = heard_on number work reaches watcher on c c middle d one.some (itself c) one.armed more;
+    one = elim one.one [ inl it ↦ inl (it.0, inl it.1) | inr woke ↦ inr (woke_on number work reaches on c c middle d (itself c) woke more) ];
     each = λ x is. elim is [ inl left ↦ first_stays (Future f) one x left | inr right ↦ second_stays second two x right ];
   }
   two_cover (Done y) (Future g) one two told = record {
-    some = two.some;
-    armed = heard_on number work reaches watcher on c middle d d two.some first_reached two.armed (itself d);
+    one = elim two.one [ inl it ↦ inl (it.0, inr it.1) | inr woke ↦ inr (woke_on number work reaches on c middle d d first_reached woke (itself d)) ];
     each = λ x is. elim is [ inl left ↦ absurd left | inr right ↦ second_stays (Future g) two x right ];
   }
   two_cover (Done x) (Done y) one two told = absurd (both_done x y told)

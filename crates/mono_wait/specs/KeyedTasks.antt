@@ -1,6 +1,5 @@
 -- A pending future over one of many parts stands in that part with the running task, at its ticket.
-use Rattle.std.specs.Prelude.{◌≡◌, ◌==◌, ◌⊎◌, ℕ, zero, suc, ⊤, Bool, true, false, List, [], ◌∷◌, ◌++◌, Option, Some, None}
-use Rattle.std.specs.List.{list_any}
+use Rattle.std.specs.Prelude.{◌≡◌, ℕ, zero, suc, ⊤, Bool, true, false, List, [], ◌∷◌, ◌++◌, Option, Some, None}
 use Rattle.std.proofs.Common.{inl, inr, sym, ap, ◌∙◌, subst, refl}
 use Rattle.mono_model.specs.Tasks.{Tasks}
 use Rattle.mono_model.specs.Table.{Table, value_at, with_value}
@@ -23,8 +22,8 @@ use Rattle.mono_sync.specs.Semaphores as semaphore
 use Rattle.mono_sync.specs.Notices as notice
 use Rattle.mono_sync.specs.Watches as watch
 use Rattle.mono_sync.specs.Oneshot as oneshot
-use Rattle.mono_sync.specs.Many.{At, lists_each, waits_each}
-use Rattle.mono_sync.specs.ManyLeads.{each_lists, each_some}
+use Rattle.mono_sync.specs.Many.{At, lists_each}
+use Rattle.mono_sync.specs.ManyLeads.{each_lists}
 use Rattle.mono_sync.specs.KeyedCalls.{AtOr}
 use Rattle.mono_sync.specs.KeyedMessages as message
 use Rattle.mono_sync.specs.KeyedPermits.{AcquireAtPolls}
@@ -63,10 +62,9 @@ module _ {X : Type 0} (lists : X → List ℕ → ℕ → Bool) where
     call_stands R Missing (inl call) none stands = at_stands R call stands
     call_stands R Missing (inr call) none stands = absurd (none call.1)
 
-  -- the table names the task
-  pub named_at : (waiting : X → List ℕ) → ((x : X) (p : List ℕ) (t : ℕ) → lists x p t ≡ true → list_any (λ u. u == t) (waiting x) ≡ true)
-      → (a : Table X) (key : ℕ) (line : List ℕ) (ticket : Option ℕ) (task : ℕ) → StandsAt a key line ticket task → waits_each waiting a task ≡ true
-  named_at waiting some a key line ticket task s = each_some lists waiting some a ((key ∷ line) ++ s.0 ∷ []) task s.2
+  -- the future keeps its key
+  pub keeps_key : (a : Table X) (old new : ℕ) (line : List ℕ) (ticket : Option ℕ) (task : ℕ) → new ≡ old → StandsAt a old line ticket task → StandsAt a new line ticket task
+  keeps_key a old new line ticket task same s = subst (λ n. StandsAt a n line ticket task) (sym same) s
 
   -- this is its only ticket, and it keeps its key
   pub only_at : (a : Table X) (old new : ℕ) (line : List ℕ) (ticket : Option ℕ) (task : ℕ) → new ≡ old → StandsAt a old line ticket task → (k : ℕ) → ticket ≡ Some k → lists_each lists a ((new ∷ line) ++ k ∷ []) task ≡ true

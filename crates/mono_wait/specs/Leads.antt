@@ -6,7 +6,7 @@ use Rattle.mono_model.specs.declared.poll.Poll.TheVariants.{Ready, Pending}
 use Rattle.mono_task.specs.Members.{FutureOf}
 use Rattle.mono_forms.specs.Parts.{PartCancels}
 use Rattle.mono_forms.specs.Maps.{LeadsTo, AfterPart, PartPolls, LeadPolls}
-use Rattle.mono_machine.specs.Watches.{Source}
+use Rattle.mono_wait.specs.Sources.{Source}
 use Rattle.mono_wait.specs.Frames.{Frame, Part, Needs, CoversIn, same_reached}
 
 -- those of the future, until it has answered

@@ -1,14 +1,13 @@
 -- The source of a sleep.
 use Rattle.std.specs.Prelude.{◌≡◌, ℕ, ⊤, Option, Some}
-use Rattle.std.proofs.Common.{inl, sym, ap, ◌∙◌, subst}
+use Rattle.std.proofs.Common.{inl, sym, ap, ◌∙◌, subst, refl}
 use Rattle.mono_model.specs.Tasks.{Tasks}
 use Rattle.mono_model.specs.Table.{value_at}
 use Rattle.mono_model.specs.declared.poll.Poll.TheVariants.{Pending}
 use Rattle.mono_time.specs.Sleeps.{SleepTable}
 use Rattle.mono_time.specs.Futures.{SleepPolls}
 use Rattle.mono_time.specs.declared.sleeps.Sleep.{Sleep}
-use Rattle.mono_machine.specs.Watches.{Source, of_sleep}
-use Rattle.mono_wait.specs.Sources.{Covers, Heard, waker_in}
+use Rattle.mono_wait.specs.Sources.{Source, of_sleep, Covers, Heard, waker_in}
 use Rattle.mono_wait.specs.SleepPolls.{pending_arms}
 
 abbrev pub SleepNeeds : Sleep → Source → Type 0
@@ -28,7 +27,6 @@ module _ {C : Type 0} (number : C → ℕ) (sleeps : C → SleepTable) (work : C
   -- once pending, the running task is the sleep's waker
   pub sleeps_cover : (f : Sleep) (c : C) (g : Sleep) (d : C) → SleepPolls number sleeps work reaches f c Pending g d → Covers number work reaches watcher c d (SleepNeeds g)
   sleeps_cover f c g d p = record {
-    some = of_sleep f.number;
-    armed = sleep_heard f c g d p;
+    one = inl (of_sleep g.number, refl);
     each = λ x is. subst (Heard number work reaches watcher c d) (sym (is ∙ ap (λ h. of_sleep h.number) p.sleep)) (sleep_heard f c g d p);
   }

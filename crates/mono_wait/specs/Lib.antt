@@ -45,3 +45,4 @@ pub mod Takes
 pub mod KeyedTasks
 pub mod Performs
 pub mod AskedTasks
+pub mod Unlikes

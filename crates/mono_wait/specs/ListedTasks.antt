@@ -1,11 +1,10 @@
 -- A pending future over a shared value stands in it with the running task, at its ticket.
 use Rattle.std.specs.Prelude.{◌≡◌, ◌==◌, ◌&&◌, ◌||◌, MatchBool, ℕ, ⊤, Bool, true, false, List, [], ◌∷◌, ◌++◌, Option, Some, None, Ok}
-use Rattle.std.specs.List.{list_any}
 use Rattle.std.proofs.Common.{inl, inr, cond, sym, ap, ◌∙◌, subst, refl, eq-eqb, nat_lt}
 use Rattle.std.proofs.lemmas.Bool.Decides.{eqb_tells}
 use Rattle.mono_model.specs.Tasks.{Tasks}
 use Rattle.mono_model.specs.declared.poll.Poll.TheVariants.{Pending}
-use Rattle.mono_sync.specs.Lines.{waits_at, has_task, holder_of, Fits, Collects, HasRoom, Marks, Comes, ComesOf, Joins}
+use Rattle.mono_sync.specs.Lines.{waits_at, holder_of, Fits, Collects, HasRoom, Marks, Comes, ComesOf, Joins}
 use Rattle.mono_sync.specs.Messages as message
 use Rattle.mono_sync.specs.Permits.{AcquirePolls}
 use Rattle.mono_sync.specs.Notifications.{NotifiedPolls}
@@ -20,6 +19,8 @@ use Rattle.mono_sync.specs.declared.semaphores.Semaphore.{Semaphore}
 use Rattle.mono_sync.specs.declared.notices.Notify.{Notify}
 use Rattle.mono_sync.specs.declared.notices.Notifying.TheVariants as notifying
 use Rattle.mono_sync.specs.declared.watch.Watch.{Watch}
+use Rattle.mono_sync.specs.declared.watch.Changing.TheVariants as changing
+use Rattle.mono_sync.specs.WaitsFor.{WaitsIf, WaitForPolls}
 use Rattle.mono_sync.specs.declared.oneshot.Oneshot.{Oneshot}
 
 pub false-true : false ≡ true → ⊥
@@ -41,22 +42,8 @@ or_right false b is = is
 pub or_left : (a b : Bool) → a ≡ true → (a || b) ≡ true
 or_left a b is = ap (λ x. x || b) is
 
-pub or_either : (a b x y : Bool) → (a ≡ true → x ≡ true) → (b ≡ true → y ≡ true) → (a || b) ≡ true → (x || y) ≡ true
-or_either true b x y f g is = ap (λ z. z || y) (f refl)
-or_either false b true y f g is = refl
-or_either false b false y f g is = g is
-
-pub and_right : (a b : Bool) → (a && b) ≡ true → b ≡ true
-and_right true b is = is
-and_right false b is = absurd (false-true is)
-
 pub both : (a b : Bool) → a ≡ true → b ≡ true → (a && b) ≡ true
 both a b p q = ap (λ x. x && b) p ∙ q
-
--- who waits at a ticket waits
-waits_some : (ws : List Waiter) (k t : ℕ) → waits_at ws k t ≡ true → list_any (λ w. w.task == t) ws ≡ true
-waits_some [] k t is = absurd (false-true is)
-waits_some (w ∷ ws) k t is = or_either ((w.ticket == k) && (w.task == t)) (waits_at ws k t) (w.task == t) (list_any (λ v. v.task == t) ws) (and_right (w.ticket == k) (w.task == t)) (waits_some ws k t) is
 
 -- the task of the future with a ticket
 holder_waits : (ws : List Waiter) (k t : ℕ) → holder_of ws k ≡ Some t → waits_at ws k t ≡ true
@@ -75,9 +62,6 @@ last_waits (v ∷ ws) w k t at is = or_right ((v.ticket == k) && (v.task == t)) 
 -- The future has a ticket, and this task stands in the line with it.
 abbrev pub StandsIn : Line → Option ℕ → ℕ → Type 0
 StandsIn a ticket task = (k : ℕ) × (ticket ≡ Some k) × (waits_at a.waiters.items k task ≡ true)
-
-pub named_in : (a : Line) (ticket : Option ℕ) (task : ℕ) → StandsIn a ticket task → has_task a task ≡ true
-named_in a ticket task (k, at, waits) = waits_some a.waiters.items k task waits
 
 -- this is its only ticket
 pub stands_at : (a : Line) (ticket : Option ℕ) (task : ℕ) → StandsIn a ticket task → (k : ℕ) → ticket ≡ Some k → waits_at a.waiters.items k task ≡ true
@@ -116,13 +100,6 @@ module _ {T C : Type 0} (part : C → Channel T) (number : C → ℕ) (work : C 
   recv_stands ticket c left d (inl p) = comes_waits (part c).receivers (part d).receivers (number c) _ ticket left p.0 p.1.1
   recv_stands ticket c left d (inr (t, p)) = joins_waits p.1.1.0 (part d).receivers (number c) t left p.0 p.1.1.1.1
 
-  pub send_listed : (m : Option T) (ticket : Option ℕ) (c : C) (kept : Option T) (left : Option ℕ) (d : C) → message.SendPolls part number work m ticket c Pending kept left d
-      → (has_task (part d).senders (number c) || has_task (part d).receivers (number c)) ≡ true
-  send_listed m ticket c kept left d p = or_left _ _ (named_in (part d).senders left (number c) (send_stands m ticket c kept left d p))
-
-  pub recv_listed : (ticket : Option ℕ) (c : C) (left : Option ℕ) (d : C) → message.RecvPolls part number work ticket c Pending left d → (has_task (part d).senders (number c) || has_task (part d).receivers (number c)) ≡ true
-  recv_listed ticket c left d p = or_right _ _ (named_in (part d).receivers left (number c) (recv_stands ticket c left d p))
-
 awaits_if : (a b : Notify) (k task : ℕ) (left : Option ℕ) (c : Bool) → left ≡ Some k → MatchBool c (AwaitsAgain a k task notifying.Waits b) (AwaitsFirst a task notifying.Waits b) → StandsIn b.line left task
 awaits_if a b k task left true same p = comes_waits a.line b.line task 1 (Some k) left same p.0
 awaits_if a b k task left false same p = absurd p
@@ -155,3 +132,23 @@ module _ {C : Type 0} (number : C → ℕ) (work : C → Tasks ⊤) where
   pub delivery_stands : {T : Type 0} (part : C → Oneshot T) (ticket : Option ℕ) (c : C) (left : Option ℕ) (d : C) → delivery.RecvPolls part number work ticket c Pending left d → StandsIn (part d).line left (number c)
   delivery_stands part ticket c left d (inl p) = comes_waits (part c).line (part d).line (number c) _ ticket left p.0 p.1.1
   delivery_stands part ticket c left d (inr (t, p)) = joins_waits p.1.1.0 (part d).line (number c) t left p.0 p.1.1.1.2
+
+waits-changed : (v : ℕ) → changing.Waits ≡ changing.Changed v → ⊥
+waits-changed v e = cc
+
+joined-changed : (t v : ℕ) → changing.Joined t ≡ changing.Changed v → ⊥
+joined-changed t v e = cc
+
+-- a future that waits until a watched value meets a condition
+module _ {T C : Type 0} (part : C → Watch T) (number : C → ℕ) (work : C → Tasks ⊤) (says : T → Bool → Type 0) where
+  still_if : (meets : Bool) (ticket : Option ℕ) (c : C) (left : Option ℕ) (d : C) → left ≡ ticket → WaitsIf meets (part c) ticket (number c) changing.Waits (part d) → StandsIn (part d).line left (number c)
+  still_if true ticket c left d same q = absurd (waits-changed (part c).version q.0)
+  still_if false ticket c left d same q = comes_waits (part c).line (part d).line (number c) _ ticket left same q.2
+
+  anew_if : (meets : Bool) (ticket : Option ℕ) (c : C) (left : Option ℕ) (d : C) (t : ℕ) → left ≡ Some t → WaitsIf meets (part c) ticket (number c) (changing.Joined t) (part d) → StandsIn (part d).line left (number c)
+  anew_if true ticket c left d t same q = absurd (joined-changed t (part c).version q.0)
+  anew_if false ticket c left d t same q = joins_waits q.2.0 (part d).line (number c) t left same q.2.1.1
+
+  pub wait_for_stands : (ticket : Option ℕ) (c : C) (left : Option ℕ) (d : C) → WaitForPolls part number work says ticket c Pending left d → StandsIn (part d).line left (number c)
+  wait_for_stands ticket c left d (inl p) = still_if p.1.0 ticket c left d p.0 p.1.1.1
+  wait_for_stands ticket c left d (inr (t, p)) = anew_if p.1.0 ticket c left d t p.0 p.1.1.1

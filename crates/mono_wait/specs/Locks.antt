@@ -11,8 +11,7 @@ use Rattle.mono_serve.specs.declared.leases.Claimed.{Claimed}
 use Rattle.mono_serve.specs.declared.leases.Claimed.TheVariants as claim
 use Rattle.mono_serve.specs.declared.leases.Looked.{Looked}
 use Rattle.mono_serve.specs.declared.leases.Looked.TheVariants as look
-use Rattle.mono_machine.specs.Watches.{of_peers}
-use Rattle.mono_wait.specs.Sources.{peers_watcher}
+use Rattle.mono_wait.specs.Sources.{of_peers, own_watcher}
 use Rattle.mono_wait.specs.Peers.{PeersNeeds, peers_cover}
 use Rattle.mono_wait.specs.Places.{last_has}
 use Rattle.mono_wait.specs.Standings.{false-true, or_right, or_left, any_first, any_second, any_split, any_removed}
@@ -72,9 +71,9 @@ module _ (a m b : Leases) (s key task : ℕ) (settles : Settles m b) where
   stayed ticket t true is (drawn, same) = in_leases (same_standing (λ w. w.task == task) a m same (any_first (λ w. w.task == task) a.waiters.items a.due.items (there_named a.waiters.items ticket task is)))
   stayed ticket t false is (drawn, line, next, due) = at_end a.next line
 
-module _ {C : Type 0} (w : Frame C) (part : C → Leases) (nanos : C → ℕ) (lists : C → ℕ → Bool) (same_number : (a b : C) → w.reaches a b → w.number b ≡ w.number a)
-    (watches_peers : (c : C) (u : ℕ) → w.watcher c (of_peers u) ≡ peers_watcher (lists c u) (w.work c) u)
-    (names_part : (c : C) (t : ℕ) → lists_task (part c) t ≡ true → lists c t ≡ true) where
+module _ {C : Type 0} (w : Frame C) (part : C → Leases) (nanos : C → ℕ) (names : C → ℕ → Bool) (same_number : (a b : C) → w.reaches a b → w.number b ≡ w.number a)
+    (watches_peers : (c : C) → w.watcher c of_peers ≡ own_watcher (names c (w.number c)) (w.number c))
+    (names_part : (c : C) (t : ℕ) → lists_task (part c) t ≡ true → names c t ≡ true) where
   claim_listed : (c d : C) (s key : ℕ) (answer : Claimed) (left : Option ℕ) → Then (Claims (part c) (nanos c) s key (w.number c) answer) (part d) → AfterClaim part w.number nanos w.work answer Pending left
       → lists_task (part d) (w.number c) ≡ true
   claim_listed c d s key claim.Held left q after = absurd (no_answer _ after.0)
@@ -90,8 +89,8 @@ module _ {C : Type 0} (w : Frame C) (part : C → Leases) (nanos : C → ℕ) (l
       stayed (part c) m (part d) s key (w.number c) settles ticket t (is_there (part c).waiters.items ticket (w.number c)) refl stays
 
   -- once pending, the task is in the leases' line, or is owed a wake
-  pub locks_cover : (ticket : Option ℕ) (s key : ℕ) (c : C) (left : Option ℕ) (d : C) (t : ℕ) → w.reaches c d → t ≡ w.number c → AcquirePolls part w.number nanos w.work ticket s key c Pending left d → CoversIn w c d (PeersNeeds t)
-  locks_cover None s key c left d t reached is p =
-      peers_cover w.number w.work w.reaches w.watcher w.itself same_number lists watches_peers c d t reached is (names_part d (w.number c) (claim_listed c d s key p.answer left p.claims p.rest))
-  locks_cover (Some ticket) s key c left d t reached is p =
-      peers_cover w.number w.work w.reaches w.watcher w.itself same_number lists watches_peers c d t reached is (names_part d (w.number c) (look_listed c d ticket s key p.answer left p.looks p.rest))
+  pub locks_cover : (ticket : Option ℕ) (s key : ℕ) (c : C) (left : Option ℕ) (d : C) → w.reaches c d → AcquirePolls part w.number nanos w.work ticket s key c Pending left d → CoversIn w c d PeersNeeds
+  locks_cover None s key c left d reached p =
+      peers_cover w.number w.work w.reaches w.watcher w.itself same_number names watches_peers c d reached (names_part d (w.number c) (claim_listed c d s key p.answer left p.claims p.rest))
+  locks_cover (Some ticket) s key c left d reached p =
+      peers_cover w.number w.work w.reaches w.watcher w.itself same_number names watches_peers c d reached (names_part d (w.number c) (look_listed c d ticket s key p.answer left p.looks p.rest))

@@ -15,8 +15,7 @@ use Rattle.mono_time.specs.declared.sleeps.Sleep.{Sleep}
 use Rattle.mono_time.specs.declared.naps.SleepFor.{SleepFor}
 use Rattle.mono_time.specs.declared.naps.SleepFor.TheVariants.{Fresh, Asleep, Over}
 use Rattle.mono_time.specs.declared.error.LateError.{LateError}
-use Rattle.mono_machine.specs.Watches.{Source, of_sleep}
-use Rattle.mono_wait.specs.Sources.{waker_in}
+use Rattle.mono_wait.specs.Sources.{Source, of_sleep, waker_in}
 use Rattle.mono_wait.specs.Leaves.{SleepNeeds, sleeps_cover}
 use Rattle.mono_wait.specs.Frames.{Frame, Part, Needs, CoversIn, same_reached, covers_after, covers_both}
 

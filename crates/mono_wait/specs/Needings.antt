@@ -6,8 +6,7 @@ use Rattle.mono_model.specs.Poll.{OnPending}
 use Rattle.mono_model.specs.declared.poll.Poll.{Poll}
 use Rattle.mono_model.specs.declared.poll.Poll.TheVariants.{Ready, Pending}
 use Rattle.mono_task.specs.Members.{FutureOf}
-use Rattle.mono_machine.specs.Watches.{Source, of_sleep, of_task, of_job}
-use Rattle.mono_wait.specs.Sources.{Covers}
+use Rattle.mono_wait.specs.Sources.{Source, of_sleep, of_task, of_job, Covers}
 use Rattle.mono_wait.specs.declared.needing.Named.{Named}
 use Rattle.mono_wait.specs.declared.needing.Named.TheVariants as named
 

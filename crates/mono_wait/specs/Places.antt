@@ -1,13 +1,11 @@
--- A task that stands in a line of a shared value, at some moment of the poll of its future.
-use Rattle.std.specs.Prelude.{◌≡◌, ◌<◌, ◌==◌, ◌||◌, ℕ, Bool, true, false, zero, suc, length, List, [], ◌∷◌, ◌++◌, slice_set}
+-- The place of a shared value at which a future waits.
+use Rattle.std.specs.Prelude.{◌≡◌, ◌==◌, ◌||◌, ℕ, ⊤, Bool, true, false, List, [], ◌∷◌, ◌++◌, Option, Some}
 use Rattle.std.specs.List.{list_any}
-use Rattle.std.proofs.Common.{ap, refl, eq-eqb, arith}
-use Rattle.mono_machine.specs.Watches.{of_peers}
-use Rattle.mono_wait.specs.Sources.{peers_watcher}
-use Rattle.mono_wait.specs.Peers.{PeersNeeds, peers_cover}
-use Rattle.mono_wait.specs.Frames.{Frame, CoversIn, covers_before}
+use Rattle.std.proofs.Common.{inl, sym, ap, ◌∙◌, subst, refl, eq-eqb}
+use Rattle.mono_model.specs.Tasks.{Tasks}
+use Rattle.mono_wait.specs.Sources.{Source, of_place, Heard, Covers, own_watcher}
 
-pub or_right : (a b : Bool) → b ≡ true → (a || b) ≡ true
+or_right : (a b : Bool) → b ≡ true → (a || b) ≡ true
 or_right true b is = refl
 or_right false b is = is
 
@@ -20,15 +18,30 @@ module _ {X : Type 0} (task_of : X → ℕ) (task : ℕ) where
   last_has [] w is = or_left (task_of w == task) false (eq-eqb (task_of w) task is)
   last_has (v ∷ ws) w is = or_right (task_of v == task) _ (last_has ws w is)
 
-  -- a task in the place of a future that waits
-  pub place_has : (ws : List X) (i : ℕ) (w : X) → i < length ws → task_of w ≡ task → list_any (λ v. task_of v == task) (slice_set ws i w) ≡ true
-  place_has [] i w inside is = absurd (omega (arith, inside))
-  place_has (v ∷ ws) zero w inside is = or_left (task_of w == task) _ (eq-eqb (task_of w) task is)
-  place_has (v ∷ ws) (suc i) w inside is = or_right (task_of v == task) _ (place_has ws i w (omega (arith, inside)) is)
+-- Its ticket in a line of a part of the value, once it has one.
+abbrev pub PlaceNeeds : List ℕ → List ℕ → Option ℕ → Source → Type 0
+PlaceNeeds part line ticket x = (k : ℕ) × (ticket ≡ Some k) × (x ≡ of_place (part ++ (line ++ k ∷ [])))
 
-module _ {C : Type 0} (w : Frame C) (lists : C → ℕ → Bool) (same_number : (a b : C) → w.reaches a b → w.number b ≡ w.number a)
-    (watches_peers : (c : C) (u : ℕ) → w.watcher c (of_peers u) ≡ peers_watcher (lists c u) (w.work c) u) where
-  -- the shared value listed the running task at a moment, and only calls of the turn came since then
-  pub listed_at : (c m d : C) (t : ℕ) → w.reaches c m → w.reaches m d → t ≡ w.number c → lists m (w.number c) ≡ true → CoversIn w c d (PeersNeeds t)
-  listed_at c m d t before since is listed =
-      covers_before w c m d (PeersNeeds t) (peers_cover w.number w.work w.reaches w.watcher w.itself same_number lists watches_peers c m t before is listed) since
+same_some : (i j : ℕ) → Some i ≡ Some j → i ≡ j
+same_some i j e = cc
+
+module _ {C W : Type 0} (number : C → ℕ) (work : C → Tasks ⊤) (reaches : C → C → Type 0) (watcher : C → Source → Option ℕ)
+    (itself : (c : C) → reaches c c) (same_number : (a b : C) → reaches a b → number b ≡ number a) (shared : C → W) (lists : W → List ℕ → ℕ → Bool)
+    (watches : (c : C) (p : List ℕ) → watcher c (of_place p) ≡ own_watcher (lists (shared c) p (number c)) (number c)) where
+  place_heard : (c d : C) (p : List ℕ) → reaches c d → lists (shared d) p (number c) ≡ true → Heard number work reaches watcher c d (of_place p)
+  place_heard c d p reached listed = record {
+    moment = d;
+    before = reached;
+    hears = inl (watches d p ∙ ap (λ b. own_watcher b (number d)) (ap (lists (shared d) p) (same_number c d reached) ∙ listed));
+    since = itself d;
+  }
+
+  -- once pending, the part lists the running task at its ticket, and so does the whole
+  pub places_cover : (part_lists : W → List ℕ → ℕ → Bool) (part : List ℕ) → ((w : W) (p : List ℕ) (t : ℕ) → part_lists w p t ≡ true → lists w (part ++ p) t ≡ true) → (c d : C) (line : List ℕ) (ticket : Option ℕ) → reaches c d
+      → (k : ℕ) × (ticket ≡ Some k) × (part_lists (shared d) (line ++ k ∷ []) (number c) ≡ true) → Covers number work reaches watcher c d (PlaceNeeds part line ticket)
+  places_cover part_lists part goes c d line ticket reached (k, at, listed) = record {
+    one = inl (of_place (part ++ (line ++ k ∷ [])), (k, at, refl));
+    each = λ x needed.
+        subst (Heard number work reaches watcher c d) (sym (needed.2 ∙ ap (λ n. of_place (part ++ (line ++ n ∷ []))) (same_some needed.0 k (sym needed.1 ∙ at))))
+        (place_heard c d (part ++ (line ++ k ∷ [])) reached (goes (shared d) (line ++ k ∷ []) (number c) listed));
+  }

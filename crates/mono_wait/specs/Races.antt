@@ -9,7 +9,7 @@ use Rattle.mono_forms.specs.declared.eithers.Either.{Either}
 use Rattle.mono_forms.specs.declared.eithers.Either.TheVariants.{Left, Right}
 use Rattle.mono_forms.specs.Races.{RaceCancels, AfterLater, PollsLater, AfterEarlier, RacePolls}
 use Rattle.mono_forms.specs.EitherRaces.{AfterOther, PollsOther, AfterOne, EitherRacePolls}
-use Rattle.mono_machine.specs.Watches.{Source}
+use Rattle.mono_wait.specs.Sources.{Source}
 use Rattle.mono_wait.specs.Frames.{Frame, Part, Needs, CoversIn, same_reached, covers_both}
 
 abbrev pub EitherNeeds : {A B : Type 0} → Needs A → Needs B → Either A B → Source → Type 0

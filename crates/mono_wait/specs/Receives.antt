@@ -9,8 +9,7 @@ use Rattle.mono_serve.specs.declared.mailboxes.Receiver.{Receiver}
 use Rattle.mono_serve.specs.declared.mailboxes.Received.{Received}
 use Rattle.mono_serve.specs.declared.mailboxes.Received.TheVariants as receive
 use Rattle.mono_serve.specs.declared.mailboxes.Mailboxes.{Mailboxes}
-use Rattle.mono_machine.specs.Watches.{of_peers}
-use Rattle.mono_wait.specs.Sources.{peers_watcher}
+use Rattle.mono_wait.specs.Sources.{of_peers, own_watcher}
 use Rattle.mono_wait.specs.Peers.{PeersNeeds, peers_cover}
 use Rattle.mono_wait.specs.Places.{last_has}
 use Rattle.mono_wait.specs.Standings.{false-true, or_right, or_left}
@@ -53,9 +52,9 @@ module _ {M : Type 0} (actor task t : ℕ) where
   waits_in_line None a b p = fresh (has_actor a.waiters.items actor || has_actor a.called.items actor) a b p
   waits_in_line (Some ticket) a b p = stays _ (is_there a.waiters.items ticket actor task) ticket a b refl p
 
-module _ {M C : Type 0} (w : Frame C) (part : C → Mailboxes M) (lists : C → ℕ → Bool) (same_number : (a b : C) → w.reaches a b → w.number b ≡ w.number a)
-    (watches_peers : (c : C) (u : ℕ) → w.watcher c (of_peers u) ≡ peers_watcher (lists c u) (w.work c) u)
-    (names_part : (c : C) (t : ℕ) → lists_task (part c) t ≡ true → lists c t ≡ true) where
+module _ {M C : Type 0} (w : Frame C) (part : C → Mailboxes M) (names : C → ℕ → Bool) (same_number : (a b : C) → w.reaches a b → w.number b ≡ w.number a)
+    (watches_peers : (c : C) → w.watcher c of_peers ≡ own_watcher (names c (w.number c)) (w.number c))
+    (names_part : (c : C) (t : ℕ) → lists_task (part c) t ≡ true → names c t ≡ true) where
   receive_listed : (c d : C) (ticket : Option ℕ) (actor : ℕ) (answer : Received M) (left : Option ℕ) → Receives (part c) ticket actor (w.number c) answer (part d) → AfterReceive part w.number w.work answer Pending left
       → lists_task (part d) (w.number c) ≡ true
   receive_listed c d ticket actor (receive.Got from message) left q after = absurd (no_answer _ after.0)
@@ -63,6 +62,6 @@ module _ {M C : Type 0} (w : Frame C) (part : C → Mailboxes M) (lists : C → 
   receive_listed c d ticket actor (receive.Waits t) left q after = or_left (has_task (part d).waiters.items (w.number c)) _ (waits_in_line actor (w.number c) t ticket (part c) (part d) q)
 
   -- once pending, the task is in the mailboxes' line
-  pub receives_cover : (ticket : Option ℕ) (actor : ℕ) (c : C) (left : Option ℕ) (d : C) (t : ℕ) → w.reaches c d → t ≡ w.number c → ReceivePolls part w.number w.work ticket actor c Pending left d → CoversIn w c d (PeersNeeds t)
-  receives_cover ticket actor c left d t reached is p =
-      peers_cover w.number w.work w.reaches w.watcher w.itself same_number lists watches_peers c d t reached is (names_part d (w.number c) (receive_listed c d ticket actor p.answer left p.receives p.rest))
+  pub receives_cover : (ticket : Option ℕ) (actor : ℕ) (c : C) (left : Option ℕ) (d : C) → w.reaches c d → ReceivePolls part w.number w.work ticket actor c Pending left d → CoversIn w c d PeersNeeds
+  receives_cover ticket actor c left d reached p =
+      peers_cover w.number w.work w.reaches w.watcher w.itself same_number names watches_peers c d reached (names_part d (w.number c) (receive_listed c d ticket actor p.answer left p.receives p.rest))

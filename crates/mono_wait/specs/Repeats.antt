@@ -11,7 +11,7 @@ use Rattle.mono_forms.specs.Repeats.{RepeatCancels, AfterTurn, TurnsOf, Turns, O
 use Rattle.mono_forms.specs.declared.repeats.Loop.{Loop}
 use Rattle.mono_forms.specs.declared.repeats.Loop.TheVariants.{Break, Continue}
 use Rattle.mono_forms.specs.declared.repeats.Repeat.{Repeat}
-use Rattle.mono_machine.specs.Watches.{Source}
+use Rattle.mono_wait.specs.Sources.{Source}
 use Rattle.mono_wait.specs.Frames.{Frame, Part, Needs, CoversIn, same_reached, covers_after}
 use Rattle.mono_wait.specs.Yields.{wake_covers}
 

@@ -17,8 +17,7 @@ use Rattle.mono_limit.specs.declared.attempts.Stage.{Stage}
 use Rattle.mono_limit.specs.declared.attempts.Stage.TheVariants as stage
 use Rattle.mono_limit.specs.declared.attempts.Retry.{Retry}
 use Rattle.mono_limit.specs.RetryPolls.{without_stage, with_sleep, AttemptCancels, Ends, AfterReset, FailsEarly, FailsWith, due_after, AfterPoll, AfterSleep, Onward, StepOf, Takes, RetryPolls, RetryCancels}
-use Rattle.mono_machine.specs.Watches.{Source, of_sleep}
-use Rattle.mono_wait.specs.Sources.{waker_in}
+use Rattle.mono_wait.specs.Sources.{Source, of_sleep, waker_in}
 use Rattle.mono_wait.specs.Leaves.{SleepNeeds, sleeps_cover}
 use Rattle.mono_wait.specs.Frames.{Frame, Part, Needs, CoversIn, same_reached, covers_after}
 

@@ -1,9 +1,9 @@
 -- The waiting tasks, by the parts of a runtime and by the machine that they refine.
-use Rattle.std.specs.Prelude.{◌≡◌, ℕ, Bool, true, false, ◌==◌, ◌&&◌, zero, suc, map, [], ◌∷◌, Option, Some, None}
+use Rattle.std.specs.Prelude.{◌≡◌, ℕ, Bool, true, zero, suc, map, List, [], ◌∷◌, Option, Some, None}
 use Rattle.std.specs.Option.{option_map}
-use Rattle.std.proofs.Common.{cond, refl, sym, ap, ◌∙◌}
+use Rattle.std.proofs.Common.{refl, sym, ap, ◌∙◌}
 use Rattle.mono_model.specs.Table.{Table, value_at}
-use Rattle.mono_model.specs.Tasks.{Tasks, Task, Phase, idle, queued, running, done, taken, is_finished, woken}
+use Rattle.mono_model.specs.Tasks.{Tasks, Task, Phase, idle, queued, running, done, taken, woken}
 use Rattle.mono_model.specs.Sleeps as model
 use Rattle.mono_model.specs.SleepActs as sleep
 use Rattle.mono_task.specs.Work.{without_outputs, task_without, phase_without}
@@ -15,23 +15,26 @@ use Rattle.mono_rt.specs.Numbering.{task_numbered, phase_numbered}
 use Rattle.mono_rt.specs.Refinement.{Hosting, Matches, hosting_of}
 use Rattle.mono_rt.specs.declared.contexts.Cx.{Cx}
 use Rattle.mono_rt.specs.declared.parts.state.Parts.{Parts}
-use Rattle.mono_machine.specs.Steps.{has_finished}
-use Rattle.mono_machine.specs.Watches.{Source, of_sleep, of_task, of_job, of_outside, of_peers, watcher, live_at, job_waiter, is_stirred, is_stirred_in}
-use Rattle.mono_wait.specs.Sources.{waiter_in, waker_in, has_ended, live_in, outside_watcher, peers_watcher}
+use Rattle.mono_machine.specs.Watches as machine
+use Rattle.mono_machine.specs.Watches.{watcher, job_waiter, is_stirred, is_stirred_in}
+use Rattle.mono_wait.specs.Sources.{Source, in_machine, of_place, of_threads, of_peers, waiter_in, waker_in, own_watcher}
 use Rattle.mono_wait.specs.WakeEffects.{stirs}
 
--- Threads that hold a waker of the running task, and the tasks that the shared value lists, are of the context. The
--- other sources are of its parts.
-module _ {O B : Type 0} (hosting : B → Hosting) (has_handed_out : Bool) (lists : ℕ → Bool) where
-  abbrev pub parts_watcher : Parts O B → Source → Option ℕ
-  parts_watcher parts (of_sleep s) = waker_in (value_at (sleeps_of parts.timers).table s)
-  parts_watcher parts (of_task u) = waiter_in (value_at (without_outputs parts.tasks.tasks).table u)
-  parts_watcher parts (of_job j) = job_waiter (value_at (hosting parts.blocking).jobs.table j)
-  parts_watcher parts (of_outside u) = outside_watcher has_handed_out parts.me (without_outputs parts.tasks.tasks) u
-  parts_watcher parts (of_peers u) = peers_watcher (lists u) (without_outputs parts.tasks.tasks) u
+-- The sources of the machine are of the parts of a runtime, the others of its context.
+module _ {O B : Type 0} (hosting : B → Hosting) (has_handed_out : Bool) (lists : List ℕ → ℕ → Bool) (names : ℕ → Bool) where
+  abbrev pub machine_watcher : Parts O B → machine.Source → Option ℕ
+  machine_watcher parts (machine.of_sleep s) = waker_in (value_at (sleeps_of parts.timers).table s)
+  machine_watcher parts (machine.of_task u) = waiter_in (value_at (without_outputs parts.tasks.tasks).table u)
+  machine_watcher parts (machine.of_job j) = job_waiter (value_at (hosting parts.blocking).jobs.table j)
 
-abbrev pub cx_watcher : {F O P U W J A V : Type 0} → (W → ℕ → Bool) → Cx F O P U W J A V → Source → Option ℕ
-cx_watcher lists c = parts_watcher hosting_of c.has_handed_out (lists c.shared) c.parts
+  abbrev pub parts_watcher : Parts O B → Source → Option ℕ
+  parts_watcher parts (in_machine x) = machine_watcher parts x
+  parts_watcher parts (of_place p) = own_watcher (lists p parts.me) parts.me
+  parts_watcher parts of_threads = own_watcher has_handed_out parts.me
+  parts_watcher parts of_peers = own_watcher (names parts.me) parts.me
+
+abbrev pub cx_watcher : {F O P U W J A V : Type 0} → (W → List ℕ → ℕ → Bool) → (W → ℕ → Bool) → Cx F O P U W J A V → Source → Option ℕ
+cx_watcher lists names c = parts_watcher hosting_of c.has_handed_out (lists c.shared) (names c.shared) c.parts
 
 -- the wakers do not depend on the arm numbers
 seen_waker : (table : Table model.Sleep) (s : ℕ) → waker_in (value_at (map (option_map seen) table) s) ≡ sleep.waker_in (value_at table s)
@@ -50,19 +53,6 @@ module _ {O : Type 0} (number : O → ℕ) where
   both_waiters (Some task ∷ table) zero = refl
   both_waiters (v ∷ table) (suc u) = both_waiters table u
 
-  ended_phase : (phase : Phase O) → is_finished (phase_without phase) ≡ is_finished (phase_numbered number phase)
-  ended_phase idle = refl
-  ended_phase queued = refl
-  ended_phase (running noted) = refl
-  ended_phase (done output) = refl
-  ended_phase taken = refl
-
-  both_ended : (table : Table (Task O)) (u : ℕ) → has_ended (value_at (map (option_map task_without) table) u) ≡ has_finished (value_at (map (option_map (task_numbered number)) table) u)
-  both_ended [] u = refl
-  both_ended (None ∷ table) zero = refl
-  both_ended (Some task ∷ table) zero = ended_phase task.phase
-  both_ended (v ∷ table) (suc u) = both_ended table u
-
   stirred_phase : (phase : Phase O) → is_stirred (phase_without phase) ≡ is_stirred (phase_numbered number phase)
   stirred_phase idle = refl
   stirred_phase queued = refl
@@ -77,24 +67,11 @@ module _ {O : Type 0} (number : O → ℕ) where
   both_stirred (v ∷ table) (suc u) = both_stirred table u
 
 module _ {O B : Type 0} (number : O → ℕ) (hosting : B → Hosting) (parts : Parts O B) (m : Machine) where
-  same_live : (u : ℕ) → Matches number hosting parts m → live_in (without_outputs parts.tasks.tasks).table u ≡ live_at m.tasks.table u
-  same_live u st = ap (λ b. cond b None (Some u)) (both_ended number parts.tasks.tasks.table u ∙ ap (λ t. has_finished (value_at t.table u)) st.tasks)
-
-  -- what holds only under a condition holds in the machine without it
-  where_live : (b : Bool) (v w : Option ℕ) (t : ℕ) → v ≡ w → cond b v None ≡ Some t → w ≡ Some t
-  where_live true v w t same is = sym same ∙ is
-  where_live false v w t same is = absurd (impossible is)
-    where
-      impossible : None ≡ Some t → ⊥
-      impossible e = cc
-
   -- the task that waits in the context waits in the machine
-  pub parts_same_watcher : (has_handed_out : Bool) (lists : ℕ → Bool) (x : Source) (t : ℕ) → Matches number hosting parts m → parts_watcher hosting has_handed_out lists parts x ≡ Some t → watcher m x ≡ Some t
-  parts_same_watcher has_handed_out lists (of_sleep s) t st is = sym (seen_waker m.sleeps.table s) ∙ ap (λ t. waker_in (value_at t s)) st.sleeps.table ∙ is
-  parts_same_watcher has_handed_out lists (of_task u) t st is = sym (both_waiters number parts.tasks.tasks.table u ∙ ap (λ t. waiter_at (value_at t.table u)) st.tasks) ∙ is
-  parts_same_watcher has_handed_out lists (of_job j) t st is = sym (ap (λ jobs. job_waiter (value_at jobs.table j)) st.jobs) ∙ is
-  parts_same_watcher has_handed_out lists (of_outside u) t st is = where_live (has_handed_out && (u == parts.me)) (live_in (without_outputs parts.tasks.tasks).table u) (live_at m.tasks.table u) t (same_live u st) is
-  parts_same_watcher has_handed_out lists (of_peers u) t st is = where_live (lists u) (live_in (without_outputs parts.tasks.tasks).table u) (live_at m.tasks.table u) t (same_live u st) is
+  pub parts_same_watcher : (has_handed_out : Bool) (lists : List ℕ → ℕ → Bool) (names : ℕ → Bool) (x : machine.Source) (t : ℕ) → Matches number hosting parts m → parts_watcher hosting has_handed_out lists names parts (in_machine x) ≡ Some t → watcher m x ≡ Some t
+  parts_same_watcher has_handed_out lists names (machine.of_sleep s) t st is = sym (seen_waker m.sleeps.table s) ∙ ap (λ t. waker_in (value_at t s)) st.sleeps.table ∙ is
+  parts_same_watcher has_handed_out lists names (machine.of_task u) t st is = sym (both_waiters number parts.tasks.tasks.table u ∙ ap (λ t. waiter_at (value_at t.table u)) st.tasks) ∙ is
+  parts_same_watcher has_handed_out lists names (machine.of_job j) t st is = sym (ap (λ jobs. job_waiter (value_at jobs.table j)) st.jobs) ∙ is
 
   pub parts_same_stirred : (u : ℕ) → Matches number hosting parts m → is_stirred_in (value_at (without_outputs parts.tasks.tasks).table u) ≡ is_stirred_in (value_at m.tasks.table u)
   parts_same_stirred u st = both_stirred number parts.tasks.tasks.table u ∙ ap (λ t. is_stirred_in (value_at t.table u)) st.tasks

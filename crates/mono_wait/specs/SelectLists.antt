@@ -22,8 +22,8 @@ use Rattle.mono_combine.specs.BranchLists.{EachInTurn}
 use Rattle.mono_combine.specs.Looks.{is_out, ReturnsFor, TurnBy}
 use Rattle.mono_combine.specs.Rules.{passes, waits, unless_masked, counted, look_at, passed_as, passed, first_of, order_from, up_to_pass, select_rule, select_turns}
 use Rattle.mono_combine.specs.ListSelects.{Row, branch_at, are_out, out_of, BranchEnds, RowCancels, RowEnds, TurnAt, SelectListPolls}
-use Rattle.mono_machine.specs.Watches.{Source}
-use Rattle.mono_wait.specs.Frames.{Frame, Part, Needs, HeardIn, CoversIn, same_reached, heard_before, heard_after}
+use Rattle.mono_wait.specs.Sources.{Source}
+use Rattle.mono_wait.specs.Frames.{Frame, Part, Needs, HeardIn, CoversIn, OneIn, same_reached, heard_before, heard_after, one_before, one_after}
 use Rattle.mono_wait.specs.Selects.{BranchNeeds, given_up, turn_reached, turn_hears, turn_arms}
 
 -- those of each branch that is left in it
@@ -121,8 +121,9 @@ module _ {T C O : Type 0} (w : Frame C) (future : FutureOf T C O) (part : Part w
   abbrev Known : C → Row T C → ℕ → Type 0
   Known c s p = (x : Source) → BranchNeeds part.needs (branch_at s.branches p) x → HeardIn w c s.cx x
 
-  abbrev Armed : C → C → Type 0
-  Armed c d = (x : Source) × HeardIn w c d x
+  -- The branch at p is left in the select. It needs a source, or the task was woken since c.
+  abbrev Armed : C → Row T C → ℕ → Type 0
+  Armed c s p = (is_out (branch_at s.branches p) ≡ false) × OneIn w c s.cx (BranchNeeds part.needs (branch_at s.branches p))
 
   module _ {G : Type 0} (call : Shared G (ℕ × (Bor O × Unit {0})) Bool) (test : G) (looks : List (Look O)) where
     abbrev Step : Row T C → ℕ → Row T C → Type 0
@@ -157,31 +158,39 @@ module _ {T C O : Type 0} (w : Frame C) (future : FutureOf T C O) (part : Part w
       | inr more ↦ fold_makes later c m t p (w.on c s.cx m.cx reached (step_reached s b m turn)) more rest
     ]
 
-    -- the first turn of a branch that waits registers the task
-    fold_arms : (order : List ℕ) (s t : Row T C) (p : ℕ) → Has p order → is_out (branch_at s.branches p) ≡ false → look_at looks p ≡ look.Waits → FoldsTo Step s order t → Armed s.cx t.cx
+    -- the turn of a branch that waits registers the task
+    step_arms : (s : Row T C) (b : ℕ) (m : Row T C) (p : ℕ) → Step s b m → p ≡ b → is_out (branch_at s.branches p) ≡ false → look_at looks p ≡ look.Waits → Armed s.cx m p
+    step_arms s b m p turn same live is =
+        subst (Armed s.cx m) (sym same)
+        (turn_arms future w.number w.work w.reaches w.watcher part.needs part.covers (ReturnsFor call test b) (branch_at s.branches b) s.cx (branch_at m.branches b) m.cx (subst (λ k. is_out (branch_at s.branches k) ≡ false) same live)
+        (subst (λ l. TurnBy future (ReturnsFor call test b) (branch_at s.branches b) s.cx l (branch_at m.branches b) m.cx) (ap (look_at looks) (sym same) ∙ is) turn.turn))
+
+    -- the turns of the others change nothing of that
+    others_arm : (c : C) (s : Row T C) (b : ℕ) (m : Row T C) (p : ℕ) → Step s b m → p ≢ b → Armed c s p → Armed c m p
+    others_arm c s b m p turn apart (live, one) = (
+      ap is_out (stays s b m p turn apart) ∙ live,
+      one_before w c s.cx m.cx (BranchNeeds part.needs (branch_at s.branches p)) (BranchNeeds part.needs (branch_at m.branches p)) (λ x is. subst (λ v. BranchNeeds part.needs v x) (sym (stays s b m p turn apart)) is) one (step_reached s b m turn),
+    )
+
+    arms_before : (c m : C) (t : Row T C) (p : ℕ) → w.reaches c m → Armed m t p → Armed c t p
+    arms_before c m t p first (live, one) = (live, one_after w c m t.cx (BranchNeeds part.needs (branch_at t.branches p)) (BranchNeeds part.needs (branch_at t.branches p)) (λ x is. is) first one)
+
+    stays_armed : (order : List ℕ) (c : C) (s t : Row T C) (p : ℕ) → w.reaches c s.cx → look_at looks p ≡ look.Waits → Armed c s p → FoldsTo Step s order t → Armed c t p
+    stays_armed [] c s t p reached is armed q = subst (λ r. Armed c r p) q armed
+    stays_armed (b ∷ later) c s t p reached is armed (m, turn, rest) = stays_armed later c m t p (w.on c s.cx m.cx reached (step_reached s b m turn)) is (elim (eqb_tells p b) [
+      | inl same ↦ arms_before c s.cx m p reached (step_arms s b m p turn same.1 armed.0 is)
+      | inr apart ↦ others_arm c s b m p turn apart.1 armed
+    ]) rest
+
+    fold_arms : (order : List ℕ) (s t : Row T C) (p : ℕ) → Has p order → is_out (branch_at s.branches p) ≡ false → look_at looks p ≡ look.Waits → FoldsTo Step s order t → Armed s.cx t p
     fold_arms [] s t p has live is q = absurd has
-    fold_arms (b ∷ later) s t p has live is (m, turn, rest) = by_place (fold_reached later m t rest) (λ more live. fold_arms later m t p more live is rest)
-      where
-        at_place : p ≡ b → Armed s.cx m.cx
-        at_place same =
-            turn_arms future w.number w.work w.reaches w.watcher part.needs part.covers (ReturnsFor call test b) (branch_at s.branches b) s.cx (branch_at m.branches b) m.cx
-            (subst (λ k. is_out (branch_at s.branches k) ≡ false) same live)
-            (subst (λ l. TurnBy future (ReturnsFor call test b) (branch_at s.branches b) s.cx l (branch_at m.branches b) m.cx) (ap (look_at looks) (sym same) ∙ is) turn.turn)
-
-        after_place : w.reaches m.cx t.cx → Armed s.cx m.cx → Armed s.cx t.cx
-        after_place more it = (it.0, heard_before w s.cx m.cx t.cx it.0 it.1 more)
-
-        before_place : Armed m.cx t.cx → Armed s.cx t.cx
-        before_place it = (it.0, heard_after w s.cx m.cx t.cx it.0 (step_reached s b m turn) it.1)
-
-        by_place : w.reaches m.cx t.cx → (Has p later → is_out (branch_at m.branches p) ≡ false → Armed m.cx t.cx) → Armed s.cx t.cx
-        by_place more recursive = elim (eqb_tells p b) [
-          | inl same ↦ after_place more (at_place same.1)
-          | inr apart ↦ elim has [
-            | inl same ↦ absurd (apart.1 (sym same))
-            | inr later ↦ before_place (recursive later (ap is_out (stays s b m p turn apart.1) ∙ live))
-          ]
-        ]
+    fold_arms (b ∷ later) s t p has live is (m, turn, rest) = elim (eqb_tells p b) [
+      | inl same ↦ stays_armed later s.cx m t p (step_reached s b m turn) is (step_arms s b m p turn same.1 live is) rest
+      | inr apart ↦ elim has [
+        | inl same ↦ absurd (apart.1 (sym same))
+        | inr more ↦ arms_before s.cx m.cx t p (step_reached s b m turn) (fold_arms later m t p more (ap is_out (stays s b m p turn apart.1) ∙ live) is rest)
+      ]
+    ]
 
     -- no branch stands past the end
     past_knows : (s : Row T C) (p : ℕ) → length s.branches ≤ p → Known s.cx s p
@@ -199,8 +208,11 @@ module _ {T C O : Type 0} (w : Frame C) (future : FutureOf T C O) (part : Part w
         let rule : (filter_map (passed counts) (order_from start (length looks)) ≡ []) × (list_any waits counts ≡ true) = first_waits (filter_map (passed counts) (order_from start (length looks))) (list_any waits counts) picks in
         let all : FoldsTo Step s (order_from start (length looks)) t = subst (λ order. FoldsTo Step s order t) (all_turn counts (order_from start (length looks)) rule.0) turns in
         let one : WaitsAt (are_out s.branches) looks = waits_at (are_out s.branches) looks rule.1 in
-        let armed : Armed s.cx t.cx = fold_arms (order_from start (length looks)) s t one.0 (has_place start (length looks) one.0 one.1) (sym (out_at s.branches one.0) ∙ one.2) one.3 all in
-        record { some = armed.0; armed = armed.1; each = all_known start (length looks) s t each all }
+        let armed : Armed s.cx t one.0 = fold_arms (order_from start (length looks)) s t one.0 (has_place start (length looks) one.0 one.1) (sym (out_at s.branches one.0) ∙ one.2) one.3 all in
+        record {
+          one = one_before w s.cx t.cx t.cx (BranchNeeds part.needs (branch_at t.branches one.0)) (RowNeeds part.needs t.branches) (λ x is. (one.0, is)) armed.1 (w.itself t.cx);
+          each = all_known start (length looks) s t each all;
+        }
 
   module _ {G : Type 0} (call : Shared G (ℕ × (Bor O × Unit {0})) Bool) (test : G) where
     ends_reached : (picked : Poll (Option (ℕ × O))) (t : Row T C) (r : Poll (out.Out O)) (left : List (Branch T)) (b : Bool) (d : C) → RowEnds future picked t r left b d → w.reaches t.cx d

@@ -22,8 +22,7 @@ use Rattle.mono_combine.specs.Starts.{start_of}
 use Rattle.mono_combine.specs.Looks.{is_out, BranchCancels, passes_if, AfterPoll, TurnBy}
 use Rattle.mono_combine.specs.Rules.{passes, waits, unless_masked, order_from, picked_of, up_to_pass, select_rule, select_turns}
 use Rattle.mono_combine.specs.Selects.{Seats, masks, as_first, as_second, looks, without_number, TurnOf, Selects, SeatsCancel, SelectCancels, SelectEnds, SelectPolls}
-use Rattle.mono_machine.specs.Watches.{Source}
-use Rattle.mono_wait.specs.Sources.{Covers, Heard, heard_on}
+use Rattle.mono_wait.specs.Sources.{Source, Covers, NeedsOne, Heard, heard_on, woke_on}
 
 abbrev pub BranchNeeds : {T : Type 0} → (T → Source → Type 0) → Branch T → Source → Type 0
 BranchNeeds needs (Live f) x = needs f x
@@ -73,15 +72,15 @@ module _ {T C O : Type 0} (future : FutureOf T C O) (number : C → ℕ) (work :
   turn_hears (Out f) c l b' d p = subst (λ v. Hearing c v d) (sym p.0) (λ x none. absurd none)
   turn_hears Gone c l b' d p = subst (λ v. Hearing c v d) (sym p.0) (λ x none. absurd none)
 
-  -- a branch that waits is registered somewhere
-  abbrev pub Armed : C → C → Type 0
-  Armed c d = (x : Source) × Heard number work reaches watcher c d x
+  -- A branch that waits is left in the select. It needs a source, or the task was woken.
+  abbrev pub Armed : C → Branch T → C → Type 0
+  Armed c b d = (is_out b ≡ false) × NeedsOne number work reaches c d (BranchNeeds needs b)
 
-  after_arms : (f : T) (c : C) (answer : Poll O) (g : T) (middle : C) (b : Branch T) (d : C) → future.polls f c answer g middle → AfterPoll future says answer g middle look.Waits b d → Armed c d
+  after_arms : (f : T) (c : C) (answer : Poll O) (g : T) (middle : C) (b : Branch T) (d : C) → future.polls f c answer g middle → AfterPoll future says answer g middle look.Waits b d → Armed c b d
   after_arms f c (Ready y) g middle b d polled (given, gone, (is_true, said, is)) = absurd (waits-passes is_true y is)
-  after_arms f c Pending g middle b d polled rest = let it : Covers number work reaches watcher c middle (needs g) = covers f c g middle polled in subst (Armed c) (sym rest.2) (it.some, it.armed)
+  after_arms f c Pending g middle b d polled rest = subst (λ v. Armed c v d) (sym rest.1) (subst (λ e. Armed c (Live g) e) (sym rest.2) (refl, (covers f c g middle polled).one))
 
-  pub turn_arms : (b : Branch T) (c : C) (b' : Branch T) (d : C) → is_out b ≡ false → TurnBy future says b c look.Waits b' d → Armed c d
+  pub turn_arms : (b : Branch T) (c : C) (b' : Branch T) (d : C) → is_out b ≡ false → TurnBy future says b c look.Waits b' d → Armed c b' d
   turn_arms (Live f) c b' d live p = after_arms f c p.answer p.left p.middle b' d p.polled p.rest
   turn_arms (Out f) c b' d live p = absurd (true-false live)
   turn_arms Gone c b' d live p = absurd (true-false live)
@@ -200,6 +199,9 @@ module _ {A B G H C X Y : Type 0} (a : FutureOf A C X) (b : FutureOf B C Y) (num
     abbrev Hear : C → C → Source → Type 0
     Hear c d x = Heard number work reaches watcher c d x
 
+    abbrev One : C → C → (Source → Type 0) → Type 0
+    One c d needs = NeedsOne number work reaches c d needs
+
     earlier : (c m d : C) → reaches m d → (x : Source) → Hear c m x → Hear c d x
     earlier c m d more x it = heard_on number work reaches watcher on c c m d x (itself c) it more
 
@@ -209,7 +211,7 @@ module _ {A B G H C X Y : Type 0} (a : FutureOf A C X) (b : FutureOf B C Y) (num
     -- the first has its turn, and then the second
     first_second : (p : G) (q : H) (x : Look X) (y : Look Y) (s u t : Seats A B C) → TurnOf a b g h p q x y s 0 u → TurnOf a b g h p q x y u 1 t
         → IsWaiting (is_out s.first) x ⊎ IsWaiting (is_out s.second) y → Covers number work reaches watcher s.cx t.cx (SeatsNeed t)
-    first_second p q x y s u t one two some = record { some = it.0; armed = it.1; each = each }
+    first_second p q x y s u t one two some = record { one = arms some; each = each }
       where
         to : reaches s.cx u.cx
         to = one_turn_reached p q x y s 0 u one
@@ -221,21 +223,18 @@ module _ {A B G H C X Y : Type 0} (a : FutureOf A C X) (b : FutureOf B C Y) (num
         each z (inl first) = earlier s.cx u.cx t.cx from z (turn_hears a number work reaches watcher a_needs a_covers (FnReturnsAt g p) s.first s.cx x u.first u.cx one.0 z (subst (λ v. BranchNeeds a_needs v z) two.1 first))
         each z (inr second) = later s.cx u.cx t.cx to z (turn_hears b number work reaches watcher b_needs b_covers (FnReturnsAt h q) u.second u.cx y t.second t.cx two.0 z second)
 
-        arms : IsWaiting (is_out s.first) x ⊎ IsWaiting (is_out s.second) y → (z : Source) × Hear s.cx t.cx z
+        arms : IsWaiting (is_out s.first) x ⊎ IsWaiting (is_out s.second) y → One s.cx t.cx (SeatsNeed t)
         arms (inl w) =
-            let z : (z : Source) × Hear s.cx u.cx z = turn_arms a number work reaches watcher a_needs a_covers (FnReturnsAt g p) s.first s.cx u.first u.cx w.live (subst (λ l. TurnBy a (FnReturnsAt g p) s.first s.cx l u.first u.cx) w.waits_on one.0)
-            in (z.0, earlier s.cx u.cx t.cx from z.0 z.1)
+            let z : Armed a number work reaches watcher a_needs a_covers (FnReturnsAt g p) s.cx u.first u.cx = turn_arms a number work reaches watcher a_needs a_covers (FnReturnsAt g p) s.first s.cx u.first u.cx w.live (subst (λ l. TurnBy a (FnReturnsAt g p) s.first s.cx l u.first u.cx) w.waits_on one.0)
+            in elim z.1 [ inl it ↦ inl (it.0, inl (subst (λ v. BranchNeeds a_needs v it.0) (sym two.1) it.1)) | inr woke ↦ inr (woke_on number work reaches on s.cx s.cx u.cx t.cx (itself s.cx) woke from) ]
         arms (inr w) =
-            let z : (z : Source) × Hear u.cx t.cx z = turn_arms b number work reaches watcher b_needs b_covers (FnReturnsAt h q) u.second u.cx t.second t.cx (ap is_out one.1 ∙ w.live) (subst (λ l. TurnBy b (FnReturnsAt h q) u.second u.cx l t.second t.cx) w.waits_on two.0)
-            in (z.0, later s.cx u.cx t.cx to z.0 z.1)
-
-        it : (z : Source) × Hear s.cx t.cx z
-        it = arms some
+            let z : Armed b number work reaches watcher b_needs b_covers (FnReturnsAt h q) u.cx t.second t.cx = turn_arms b number work reaches watcher b_needs b_covers (FnReturnsAt h q) u.second u.cx t.second t.cx (ap is_out one.1 ∙ w.live) (subst (λ l. TurnBy b (FnReturnsAt h q) u.second u.cx l t.second t.cx) w.waits_on two.0)
+            in elim z.1 [ inl it ↦ inl (it.0, inr it.1) | inr woke ↦ inr (woke_on number work reaches on s.cx u.cx t.cx t.cx to woke (itself t.cx)) ]
 
     -- the second has its turn, and then the first
     second_first : (p : G) (q : H) (x : Look X) (y : Look Y) (s u t : Seats A B C) → TurnOf a b g h p q x y s 1 u → TurnOf a b g h p q x y u 0 t
         → IsWaiting (is_out s.first) x ⊎ IsWaiting (is_out s.second) y → Covers number work reaches watcher s.cx t.cx (SeatsNeed t)
-    second_first p q x y s u t one two some = record { some = it.0; armed = it.1; each = each }
+    second_first p q x y s u t one two some = record { one = arms some; each = each }
       where
         to : reaches s.cx u.cx
         to = one_turn_reached p q x y s 1 u one
@@ -247,16 +246,13 @@ module _ {A B G H C X Y : Type 0} (a : FutureOf A C X) (b : FutureOf B C Y) (num
         each z (inr second) = earlier s.cx u.cx t.cx from z (turn_hears b number work reaches watcher b_needs b_covers (FnReturnsAt h q) s.second s.cx y u.second u.cx one.0 z (subst (λ v. BranchNeeds b_needs v z) two.1 second))
         each z (inl first) = later s.cx u.cx t.cx to z (turn_hears a number work reaches watcher a_needs a_covers (FnReturnsAt g p) u.first u.cx x t.first t.cx two.0 z first)
 
-        arms : IsWaiting (is_out s.first) x ⊎ IsWaiting (is_out s.second) y → (z : Source) × Hear s.cx t.cx z
+        arms : IsWaiting (is_out s.first) x ⊎ IsWaiting (is_out s.second) y → One s.cx t.cx (SeatsNeed t)
         arms (inr w) =
-            let z : (z : Source) × Hear s.cx u.cx z = turn_arms b number work reaches watcher b_needs b_covers (FnReturnsAt h q) s.second s.cx u.second u.cx w.live (subst (λ l. TurnBy b (FnReturnsAt h q) s.second s.cx l u.second u.cx) w.waits_on one.0)
-            in (z.0, earlier s.cx u.cx t.cx from z.0 z.1)
+            let z : Armed b number work reaches watcher b_needs b_covers (FnReturnsAt h q) s.cx u.second u.cx = turn_arms b number work reaches watcher b_needs b_covers (FnReturnsAt h q) s.second s.cx u.second u.cx w.live (subst (λ l. TurnBy b (FnReturnsAt h q) s.second s.cx l u.second u.cx) w.waits_on one.0)
+            in elim z.1 [ inl it ↦ inl (it.0, inr (subst (λ v. BranchNeeds b_needs v it.0) (sym two.1) it.1)) | inr woke ↦ inr (woke_on number work reaches on s.cx s.cx u.cx t.cx (itself s.cx) woke from) ]
         arms (inl w) =
-            let z : (z : Source) × Hear u.cx t.cx z = turn_arms a number work reaches watcher a_needs a_covers (FnReturnsAt g p) u.first u.cx t.first t.cx (ap is_out one.1 ∙ w.live) (subst (λ l. TurnBy a (FnReturnsAt g p) u.first u.cx l t.first t.cx) w.waits_on two.0)
-            in (z.0, later s.cx u.cx t.cx to z.0 z.1)
-
-        it : (z : Source) × Hear s.cx t.cx z
-        it = arms some
+            let z : Armed a number work reaches watcher a_needs a_covers (FnReturnsAt g p) u.cx t.first t.cx = turn_arms a number work reaches watcher a_needs a_covers (FnReturnsAt g p) u.first u.cx t.first t.cx (ap is_out one.1 ∙ w.live) (subst (λ l. TurnBy a (FnReturnsAt g p) u.first u.cx l t.first t.cx) w.waits_on two.0)
+            in elim z.1 [ inl it ↦ inl (it.0, inl it.1) | inr woke ↦ inr (woke_on number work reaches on s.cx u.cx t.cx t.cx to woke (itself t.cx)) ]
 
     who_waits : (m n : Bool) (x : Look X) (y : Look Y) → NonePass (unless_masked m (as_first {X = X} {Y = Y} x)) (unless_masked n (as_second {X = X} {Y = Y} y)) → IsWaiting m x ⊎ IsWaiting n y
     who_waits m n x y none = elim (one_of _ _ none.some) [ inl w ↦ inl (first_waits Y m x w) | inr w ↦ inr (second_waits X n y w) ]

@@ -13,7 +13,7 @@ use Rattle.mono_forms.specs.declared.tries.TryFlatten.TheVariants as try
 use Rattle.mono_forms.specs.Rescues.{RescueCancels, AfterOther, PollsOther, AfterRescued, RescuePolls}
 use Rattle.mono_forms.specs.declared.rescues.TryFlattenErr.{TryFlattenErr}
 use Rattle.mono_forms.specs.declared.rescues.TryFlattenErr.TheVariants as rescue
-use Rattle.mono_machine.specs.Watches.{Source}
+use Rattle.mono_wait.specs.Sources.{Source}
 use Rattle.mono_wait.specs.Frames.{Frame, Part, Needs, CoversIn, same_reached, covers_after}
 
 -- those of the running step

@@ -11,7 +11,7 @@ use Rattle.mono_stream.specs.Maps.{Answers, MapPolls}
 use Rattle.mono_stream.specs.Chains.{HeldCancels, AfterPoll, Finishes, AfterNext, ByMade, ThenPolls, ThenCancels}
 use Rattle.mono_stream.specs.declared.maps.Map.{Map}
 use Rattle.mono_stream.specs.declared.chains.Then.{Then}
-use Rattle.mono_machine.specs.Watches.{Source}
+use Rattle.mono_wait.specs.Sources.{Source}
 use Rattle.mono_wait.specs.Frames.{Frame, Part, Needs, CoversIn, same_reached, covers_after}
 
 -- What `StreamWaits` asks of a stream under another.

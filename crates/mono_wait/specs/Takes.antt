@@ -1,7 +1,7 @@
 -- The sources of a future that takes tokens of a bucket.
 use Rattle.std.specs.Prelude.{◌≡◌, ◌==◌, ◌&&◌, ◌||◌, MatchBool, ℕ, ⊤, Bool, true, false, List, [], ◌∷◌, ◌++◌, Option, Some, None, Result, Ok, Err}
 use Rattle.std.specs.List.{list_any}
-use Rattle.std.proofs.Common.{sym, ap, ◌∙◌, subst, refl, eq-eqb}
+use Rattle.std.proofs.Common.{inl, inr, sym, ap, ◌∙◌, subst, refl, eq-eqb}
 use Rattle.std.specs.declared.alloc.AllocError.{AllocError}
 use Rattle.mono_model.specs.Table.{value_at}
 use Rattle.mono_model.specs.declared.poll.Poll.{Poll}
@@ -21,19 +21,18 @@ use Rattle.mono_serve.specs.declared.buckets.Asked.TheVariants as asked
 use Rattle.mono_serve.specs.declared.takes.Stage.{Stage}
 use Rattle.mono_serve.specs.declared.takes.Stage.TheVariants.{Fresh, Waits, Sleeps, Over}
 use Rattle.mono_serve.specs.declared.takes.TakeError.{TakeError}
-use Rattle.mono_machine.specs.Watches.{Source, of_sleep, of_peers}
-use Rattle.mono_wait.specs.Sources.{waker_in, peers_watcher}
+use Rattle.mono_wait.specs.Sources.{Source, of_sleep, of_peers, waker_in, own_watcher, woke_heard}
 use Rattle.mono_wait.specs.Leaves.{SleepNeeds, sleeps_cover}
 use Rattle.mono_wait.specs.Peers.{PeersNeeds}
-use Rattle.mono_wait.specs.Moments.{stirred_heard, listed_heard}
-use Rattle.mono_wait.specs.Frames.{Frame, HeardIn, CoversIn, covers_after}
+use Rattle.mono_wait.specs.Moments.{woke_itself, named_heard}
+use Rattle.mono_wait.specs.Frames.{Frame, HeardIn, WokeIn, CoversIn, covers_after}
 
 -- The tasks before it in the line, or its sleep once it is the first.
-abbrev pub TakeNeeds : ℕ → Stage → Source → Type 0
-TakeNeeds t Fresh = λ x. ⊥
-TakeNeeds t (Waits ticket) = PeersNeeds t
-TakeNeeds t (Sleeps ticket sleep) = SleepNeeds sleep
-TakeNeeds t Over = λ x. ⊥
+abbrev pub TakeNeeds : Stage → Source → Type 0
+TakeNeeds Fresh = λ x. ⊥
+TakeNeeds (Waits ticket) = PeersNeeds
+TakeNeeds (Sleeps ticket sleep) = SleepNeeds sleep
+TakeNeeds Over = λ x. ⊥
 
 no_answer : {Z : Type 0} (z : Z) → Pending ≡ Ready z → ⊥
 no_answer z e = cc
@@ -124,15 +123,15 @@ entered_stands a b (Some k) bucket task t r told p = by_place (is_there a.waiter
 entered_listed : (a b : Buckets) (ticket : Option ℕ) (bucket task t : ℕ) → Enters a ticket bucket task (Ok t) b → lists_task b task ≡ true
 entered_listed a b ticket bucket task t p = stands_named b.waiters.items bucket t task (entered_stands a b ticket bucket task t (Ok t) refl p)
 
-module _ {C : Type 0} (w : Frame C) (part : C → Buckets) (sleeps : C → SleepTable) (nanos : C → ℕ) (lists : C → ℕ → Bool)
+module _ {C : Type 0} (w : Frame C) (part : C → Buckets) (sleeps : C → SleepTable) (nanos : C → ℕ) (names : C → ℕ → Bool)
     (same_number : (a b : C) → w.reaches a b → w.number b ≡ w.number a)
     (watches : (c : C) (s : ℕ) → w.watcher c (of_sleep s) ≡ waker_in (value_at (sleeps c).table s))
-    (watches_peers : (c : C) (u : ℕ) → w.watcher c (of_peers u) ≡ peers_watcher (lists c u) (w.work c) u)
-    (names_part : (c : C) (t : ℕ) → lists_task (part c) t ≡ true → lists c t ≡ true)
-    -- the context and the task at the beginning of the poll, and the context at its end
-    (c : C) (t : ℕ) (is : t ≡ w.number c) (d : C) (whole : w.reaches c d) where
+    (watches_peers : (c : C) → w.watcher c of_peers ≡ own_watcher (names c (w.number c)) (w.number c))
+    (names_part : (c : C) (t : ℕ) → lists_task (part c) t ≡ true → names c t ≡ true)
+    -- the contexts at the beginning of the poll and at its end
+    (c : C) (d : C) (whole : w.reaches c d) where
   abbrev Held : Stage → Type 0
-  Held s = CoversIn w c d (TakeNeeds t s)
+  Held s = CoversIn w c d (TakeNeeds s)
 
   -- a sleep is pending
   nap_waits : (ticket : ℕ) (sleep : Sleep) (m : C) (answer : Poll (Result ⊤ Error)) (e f : C) (s : Stage) → w.reaches c m → SleepPolls w.number sleeps w.work w.reaches sleep m answer sleep e
@@ -159,10 +158,10 @@ module _ {C : Type 0} (w : Frame C) (part : C → Buckets) (sleeps : C → Sleep
   after_first : (ticket : ℕ) (sleep : Sleep) (m : C) (o : Option (Poll (Result ⊤ TakeError))) (stage s : Stage) (e : C) → w.reaches c m → Naps part w.number sleeps w.work w.reaches ticket sleep m o stage e
       → AfterFirstNap part w.number sleeps w.work w.reaches o stage e Pending s d → Held s
   after_first ticket sleep m (Some answer) stage s e before naps rest = pending_nap ticket sleep m answer stage s e before naps rest.0 rest.1 rest.2
-  after_first ticket sleep m None stage s e before naps rest = record { some = of_peers t; armed = woke (of_peers t); each = λ x needed. woke x }
+  after_first ticket sleep m None stage s e before naps rest = record { one = inr woke; each = λ x needed. woke_heard w.number w.work w.reaches w.watcher c d x woke }
     where
-      woke : (x : Source) → HeardIn w c d x
-      woke x = stirred_heard w same_number c e d (nap_over ticket sleep m naps.answer naps.middle e stage before naps.polled naps.rest) whole rest.2 x
+      woke : WokeIn w c d
+      woke = woke_itself w same_number c e d (nap_over ticket sleep m naps.answer naps.middle e stage before naps.polled naps.rest) whole rest.2
 
   after_made : (made : Result Sleep SleepError) (ticket : ℕ) (m : C) (s : Stage) → w.reaches c m → AfterMade part w.number sleeps w.work w.reaches made ticket m Pending s d → Held s
   after_made (Ok sleep) ticket m s before q = after_first ticket sleep m q.answer q.stage s q.middle before q.naps q.rest
@@ -172,12 +171,12 @@ module _ {C : Type 0} (w : Frame C) (part : C → Buckets) (sleeps : C → Sleep
   rests None ticket m s before q = absurd (no_answer _ q.0)
   rests (Some deadline) ticket m s before q = after_made q.made ticket q.middle s (w.on c m q.middle before q.reached) q.rest
 
-  -- the line listed the task at a, before the future asked
-  after_ask : (answer : Asked) (ticket : ℕ) (a m : C) (s : Stage) → w.reaches c a → lists a (w.number c) ≡ true → w.reaches a m → AfterAsk part w.number sleeps w.work w.reaches answer ticket m Pending s d → Held s
-  after_ask asked.Waits ticket a m s before listed more rest = subst Held (sym rest.1) (record { some = of_peers t; armed = by_peers; each = λ x needed. subst (HeardIn w c d) (sym needed) by_peers })
+  -- the line named the task at a, before the future asked
+  after_ask : (answer : Asked) (ticket : ℕ) (a m : C) (s : Stage) → w.reaches c a → names a (w.number c) ≡ true → w.reaches a m → AfterAsk part w.number sleeps w.work w.reaches answer ticket m Pending s d → Held s
+  after_ask asked.Waits ticket a m s before listed more rest = subst Held (sym rest.1) (record { one = inl (of_peers, refl); each = λ x needed. subst (HeardIn w c d) (sym needed) by_peers })
     where
-      by_peers : HeardIn w c d (of_peers t)
-      by_peers = listed_heard w same_number lists watches_peers c a d t before (subst (w.reaches a) (sym rest.2) more) is listed
+      by_peers : HeardIn w c d of_peers
+      by_peers = named_heard w same_number names watches_peers c a d before (subst (w.reaches a) (sym rest.2) more) listed
   after_ask asked.Granted ticket a m s before listed more rest = absurd (no_answer _ rest.0)
   after_ask (asked.Refused error) ticket a m s before listed more rest = absurd (no_answer _ rest.0)
   after_ask (asked.Short tick) ticket a m s before listed more rest = rests (deadline_of tick) ticket m s (w.on c a m before more) rest
@@ -186,7 +185,7 @@ module _ {C : Type 0} (w : Frame C) (part : C → Buckets) (sleeps : C → Sleep
       → AfterEntry part w.number nanos sleeps w.work w.reaches kept bucket n a Pending s d → Held s
   after_entry (Ok drawn) ticket bucket n b a s before more enters q = after_ask q.answer drawn a q.middle s (w.on c b a before more) listed q.reached q.rest
     where
-      listed : lists a (w.number c) ≡ true
+      listed : names a (w.number c) ≡ true
       listed = names_part a (w.number c) (subst (λ k. lists_task (part a) k ≡ true) (same_number c b before) (entered_listed (part b) (part a) ticket bucket (w.number b) drawn enters))
   after_entry (Err lack) ticket bucket n b a s before more enters q = absurd (no_answer _ q.0)
 

@@ -10,10 +10,9 @@ use Rattle.mono_time.specs.Futures.{SleepPolls}
 use Rattle.mono_time.specs.IntervalTicks.{TicksNot, TickAfter, TickPolls}
 use Rattle.mono_time.specs.declared.instant.Instant.{Instant}
 use Rattle.mono_time.specs.declared.intervals.Interval.{Interval}
-use Rattle.mono_machine.specs.Watches.{Source, of_sleep}
 use Rattle.mono_wait.specs.Frames.{Frame, CoversIn}
 use Rattle.mono_wait.specs.Leaves.{SleepNeeds, sleeps_cover}
-use Rattle.mono_wait.specs.Sources.{waker_in}
+use Rattle.mono_wait.specs.Sources.{Source, of_sleep, waker_in}
 
 -- its delay
 abbrev pub TickNeeds : Interval → Source → Type 0

@@ -15,26 +15,27 @@ use Rattle.mono_forms.specs.Answers.{ReadyPolls}
 use Rattle.mono_forms.specs.Lazies.{LazyPolls}
 use Rattle.mono_forms.specs.LazySpawns.{SpawnPolls}
 use Rattle.mono_task.specs.declared.error.SpawnRefused.{SpawnRefused}
-use Rattle.mono_machine.specs.Watches.{Source, of_task, is_stirred_in}
+use Rattle.mono_machine.specs.Watches.{is_stirred_in}
+use Rattle.mono_wait.specs.Sources.{Source, woke_heard}
 use Rattle.mono_wait.specs.WakeEffects.{stirs}
-use Rattle.mono_wait.specs.Frames.{Frame, CoversIn, HeardIn, same_reached}
+use Rattle.mono_wait.specs.Frames.{Frame, CoversIn, WokeIn, same_reached}
 
 no_answer : {Z : Type 0} (z : Z) → Pending ≡ Ready z → ⊥
 no_answer z e = cc
 
 module _ {C : Type 0} (w : Frame C) (wakes : C → ℕ → Result Woke TaskError → C → Type 0) (same_number : (a b : C) → w.reaches a b → w.number b ≡ w.number a) where
   -- the running task was woken in its turn
-  pub wake_heard : (c d : C) (x : Source) → WakesItself w.number w.work wakes w.reaches c d → HeardIn w c d x
-  wake_heard c d x q = record {
+  pub wake_woke : (c d : C) → WakesItself w.number w.work wakes w.reaches c d → WokeIn w c d
+  wake_woke c d q = record {
     moment = d;
     before = q.reached;
-    hears = inr (subst (λ n. is_stirred_in (value_at (w.work d).table n) ≡ true) (sym (same_number c d q.reached)) (subst (λ t. is_stirred_in (value_at t.table (w.number c)) ≡ true) (sym q.work_after) (stirs (w.work c) (w.number c))));
+    stirred = subst (λ n. is_stirred_in (value_at (w.work d).table n) ≡ true) (sym (same_number c d q.reached)) (subst (λ t. is_stirred_in (value_at t.table (w.number c)) ≡ true) (sym q.work_after) (stirs (w.work c) (w.number c)));
     since = w.itself d;
   }
 
   -- So each source is heard.
   pub wake_covers : (c d : C) (needs : Source → Type 0) → WakesItself w.number w.work wakes w.reaches c d → CoversIn w c d needs
-  wake_covers c d needs q = record { some = of_task 0; armed = wake_heard c d (of_task 0) q; each = λ x is. wake_heard c d x q }
+  wake_covers c d needs q = record { one = inr (wake_woke c d q); each = λ x is. woke_heard w.number w.work w.reaches w.watcher c d x (wake_woke c d q) }
 
   pub yield_reached : (f : YieldNow) (c : C) (r : Poll ⊤) (g : YieldNow) (d : C) → YieldPolls w.number w.work wakes w.reaches f c r g d → w.reaches c d
   yield_reached Fresh c r g d q = q.2.reached

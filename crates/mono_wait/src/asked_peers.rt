@@ -1,8 +1,14 @@
-// The sources of futures over locks, barriers, cells and broadcasts of a value that tasks share.
-ghost use Rattle.mono_wait.specs.AskedTasks.{queue_names, lock_stands, read_stands, write_stands, arrive_stands, init_stands, receive_stands};
-ghost use Rattle.mono_wait.specs.Peers.{PeersNeeds, peers_cover};
+// The sources of futures over locks, barriers, cells and broadcasts of a value that tasks share: each waits at its ticket.
+ghost use Rattle.std.specs.Prelude.{[]};
+ghost use Rattle.mono_locks.specs.Barriers as barrier_calls;
+ghost use Rattle.mono_locks.specs.Broadcasts as broadcast_calls;
+ghost use Rattle.mono_locks.specs.Mutexes as mutex_calls;
+ghost use Rattle.mono_locks.specs.OnceCells as once_cell_calls;
+ghost use Rattle.mono_locks.specs.RwLocks as rwlock_calls;
+ghost use Rattle.mono_wait.specs.AskedTasks.{lock_stands, read_stands, write_stands, arrive_stands, init_stands, receive_stands};
+ghost use Rattle.mono_wait.specs.Places.{PlaceNeeds, places_cover};
 
-use crate::by_task::ByTask;
+use crate::leaves::Reaching;
 use crate::waits::{SharedWaitContext, Waits};
 use mono_locks::Asking;
 use mono_locks::barrier::{self, Barrier};
@@ -10,75 +16,76 @@ use mono_locks::broadcast::{self, Broadcast};
 use mono_locks::mutex::{self, Mutex};
 use mono_locks::once_cell::{self, OnceCell};
 use mono_locks::rwlock::{self, RwLock};
-use mono_sync::Lists;
+use mono_sync::Holds;
 
-// It needs the task that unlocks.
-impl<T: Drop, W: Lists<Mutex<T>>, C: SharedWaitContext<W>> Waits<C>
-    for ByTask<Asking<W, mutex::LockCall<T>>> {
-    ghost needs = { λ f. PeersNeeds f.task };
+// It needs its ticket.
+impl<T: Drop, W: Holds<Mutex<T>>, C: SharedWaitContext<W>> Waits<C>
+    for Reaching<Asking<W, mutex::LockCall<T>>> {
+    ghost needs = { λ f. PlaceNeeds W.place [] f.future.ticket };
 
     ghost polls_reach = { λ f c r g d p. p.1 };
 
     ghost cancels_reach = { λ f c d p. p.1 };
 
-    ghost covers = { λ f c g d p. peers_cover C.number C.work C.reaches C.watcher C.reaches_itself C.same_number (λ x. W.names (C.shared x)) C.watches_peers c d g.task p.1 p.2 (W.names_part (C.shared d) (C.number c) (queue_names (W.part (C.shared d)).queue g.future.ticket (C.number c) (lock_stands W.part C.number C.shared C.work f.future.ticket c g.future.ticket d p.0.0))) };
+    ghost covers = { λ f c g d p. places_cover C.number C.work C.reaches C.watcher C.reaches_itself C.same_number C.shared W.lists C.watches_places (λ w. mutex_calls.listed_by (W.part w)) W.place W.lists_part c d [] g.future.ticket p.1 (lock_stands W.part C.number C.shared C.work f.future.ticket c g.future.ticket d p.0.0) };
 }
 
-// It needs the tasks that put their guards back.
-impl<T: Drop, W: Lists<RwLock<T>>, C: SharedWaitContext<W>> Waits<C>
-    for ByTask<Asking<W, rwlock::ReadCall<T>>> {
-    ghost needs = { λ f. PeersNeeds f.task };
+// It needs its ticket.
+impl<T: Drop, W: Holds<RwLock<T>>, C: SharedWaitContext<W>> Waits<C>
+    for Reaching<Asking<W, rwlock::ReadCall<T>>> {
+    ghost needs = { λ f. PlaceNeeds W.place [] f.future.ticket };
 
     ghost polls_reach = { λ f c r g d p. p.1 };
 
     ghost cancels_reach = { λ f c d p. p.1 };
 
-    ghost covers = { λ f c g d p. peers_cover C.number C.work C.reaches C.watcher C.reaches_itself C.same_number (λ x. W.names (C.shared x)) C.watches_peers c d g.task p.1 p.2 (W.names_part (C.shared d) (C.number c) (queue_names (W.part (C.shared d)).queue g.future.ticket (C.number c) (read_stands W.part C.number C.shared C.work f.future.ticket c g.future.ticket d p.0.0))) };
+    ghost covers = { λ f c g d p. places_cover C.number C.work C.reaches C.watcher C.reaches_itself C.same_number C.shared W.lists C.watches_places (λ w. rwlock_calls.listed_by (W.part w)) W.place W.lists_part c d [] g.future.ticket p.1 (read_stands W.part C.number C.shared C.work f.future.ticket c g.future.ticket d p.0.0) };
 }
 
-// It needs the tasks that put their guards back.
-impl<T: Drop, W: Lists<RwLock<T>>, C: SharedWaitContext<W>> Waits<C>
-    for ByTask<Asking<W, rwlock::WriteCall<T>>> {
-    ghost needs = { λ f. PeersNeeds f.task };
+// It needs its ticket.
+impl<T: Drop, W: Holds<RwLock<T>>, C: SharedWaitContext<W>> Waits<C>
+    for Reaching<Asking<W, rwlock::WriteCall<T>>> {
+    ghost needs = { λ f. PlaceNeeds W.place [] f.future.ticket };
 
     ghost polls_reach = { λ f c r g d p. p.1 };
 
     ghost cancels_reach = { λ f c d p. p.1 };
 
-    ghost covers = { λ f c g d p. peers_cover C.number C.work C.reaches C.watcher C.reaches_itself C.same_number (λ x. W.names (C.shared x)) C.watches_peers c d g.task p.1 p.2 (W.names_part (C.shared d) (C.number c) (queue_names (W.part (C.shared d)).queue g.future.ticket (C.number c) (write_stands W.part C.number C.shared C.work f.future.ticket c g.future.ticket d p.0.0))) };
+    ghost covers = { λ f c g d p. places_cover C.number C.work C.reaches C.watcher C.reaches_itself C.same_number C.shared W.lists C.watches_places (λ w. rwlock_calls.listed_by (W.part w)) W.place W.lists_part c d [] g.future.ticket p.1 (write_stands W.part C.number C.shared C.work f.future.ticket c g.future.ticket d p.0.0) };
 }
 
-// It needs the tasks that come.
-impl<W: Lists<Barrier>, C: SharedWaitContext<W>> Waits<C> for ByTask<Asking<W, barrier::WaitCall>> {
-    ghost needs = { λ f. PeersNeeds f.task };
+// It needs its ticket.
+impl<W: Holds<Barrier>, C: SharedWaitContext<W>> Waits<C>
+    for Reaching<Asking<W, barrier::WaitCall>> {
+    ghost needs = { λ f. PlaceNeeds W.place [] f.future.ticket };
 
     ghost polls_reach = { λ f c r g d p. p.1 };
 
     ghost cancels_reach = { λ f c d p. p.1 };
 
-    ghost covers = { λ f c g d p. peers_cover C.number C.work C.reaches C.watcher C.reaches_itself C.same_number (λ x. W.names (C.shared x)) C.watches_peers c d g.task p.1 p.2 (W.names_part (C.shared d) (C.number c) (queue_names (W.part (C.shared d)).queue g.future.ticket (C.number c) (arrive_stands W.part C.number C.shared C.work f.future.ticket c g.future.ticket d p.0.0))) };
+    ghost covers = { λ f c g d p. places_cover C.number C.work C.reaches C.watcher C.reaches_itself C.same_number C.shared W.lists C.watches_places (λ w. barrier_calls.listed_by (W.part w)) W.place W.lists_part c d [] g.future.ticket p.1 (arrive_stands W.part C.number C.shared C.work f.future.ticket c g.future.ticket d p.0.0) };
 }
 
-// It needs the task that has the turn.
-impl<T: Drop, W: Lists<OnceCell<T>>, C: SharedWaitContext<W>> Waits<C>
-    for ByTask<Asking<W, once_cell::InitCall<T>>> {
-    ghost needs = { λ f. PeersNeeds f.task };
+// It needs its ticket.
+impl<T: Drop, W: Holds<OnceCell<T>>, C: SharedWaitContext<W>> Waits<C>
+    for Reaching<Asking<W, once_cell::InitCall<T>>> {
+    ghost needs = { λ f. PlaceNeeds W.place [] f.future.ticket };
 
     ghost polls_reach = { λ f c r g d p. p.1 };
 
     ghost cancels_reach = { λ f c d p. p.1 };
 
-    ghost covers = { λ f c g d p. peers_cover C.number C.work C.reaches C.watcher C.reaches_itself C.same_number (λ x. W.names (C.shared x)) C.watches_peers c d g.task p.1 p.2 (W.names_part (C.shared d) (C.number c) (queue_names (W.part (C.shared d)).queue g.future.ticket (C.number c) (init_stands W.part C.number C.shared C.work f.future.ticket c g.future.ticket d p.0.0))) };
+    ghost covers = { λ f c g d p. places_cover C.number C.work C.reaches C.watcher C.reaches_itself C.same_number C.shared W.lists C.watches_places (λ w. once_cell_calls.listed_by (W.part w)) W.place W.lists_part c d [] g.future.ticket p.1 (init_stands W.part C.number C.shared C.work f.future.ticket c g.future.ticket d p.0.0) };
 }
 
-// It needs the tasks that send.
-impl<T: Copy + Drop, W: Lists<Broadcast<T>>, C: SharedWaitContext<W>> Waits<C>
-    for ByTask<Asking<W, broadcast::RecvCall<T>>> {
-    ghost needs = { λ f. PeersNeeds f.task };
+// It needs its ticket.
+impl<T: Copy + Drop, W: Holds<Broadcast<T>>, C: SharedWaitContext<W>> Waits<C>
+    for Reaching<Asking<W, broadcast::RecvCall<T>>> {
+    ghost needs = { λ f. PlaceNeeds W.place [] f.future.ticket };
 
     ghost polls_reach = { λ f c r g d p. p.1 };
 
     ghost cancels_reach = { λ f c d p. p.1 };
 
-    ghost covers = { λ f c g d p. peers_cover C.number C.work C.reaches C.watcher C.reaches_itself C.same_number (λ x. W.names (C.shared x)) C.watches_peers c d g.task p.1 p.2 (W.names_part (C.shared d) (C.number c) (queue_names (W.part (C.shared d)).queue g.future.ticket (C.number c) (receive_stands f.future.call.receiver.next W.part C.number C.shared C.work f.future.ticket c g.future.ticket d p.0.0))) };
+    ghost covers = { λ f c g d p. places_cover C.number C.work C.reaches C.watcher C.reaches_itself C.same_number C.shared W.lists C.watches_places (λ w. broadcast_calls.listed_by (W.part w)) W.place W.lists_part c d [] g.future.ticket p.1 (receive_stands f.future.call.receiver.next W.part C.number C.shared C.work f.future.ticket c g.future.ticket d p.0.0) };
 }

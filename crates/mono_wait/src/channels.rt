@@ -7,22 +7,22 @@ use mono_inbox::Unpark;
 
 // It needs the threads that hold a waker of its task: its senders.
 impl<T: Drop, U: Unpark, C: RemoteWaitContext<U>> Waits<C> for Recv<'_, T, U> {
-    ghost needs = { λ f. OutsideNeeds f.task };
+    ghost needs = { λ f. OutsideNeeds };
 
     ghost polls_reach = { λ f c r g d p. p.1 };
 
     ghost cancels_reach = { λ f c d p. rw p (C.reaches_itself c) };
 
-    ghost covers = { λ f c g d p. outsides_cover C.number C.work C.reaches C.watcher C.reaches_itself C.same_number C.has_handed_out C.watches_outside c d g.task p.1 p.2.0 p.2.1 };
+    ghost covers = { λ f c g d p. outsides_cover C.number C.work C.reaches C.watcher C.reaches_itself C.has_handed_out C.watches_threads c d p.1 p.2.0 };
 }
 
 // It needs the threads that hold a waker of its task: its receiver.
 impl<T: Drop, U: Unpark, C: RemoteWaitContext<U>> Waits<C> for Send<'_, T, U> {
-    ghost needs = { λ f. OutsideNeeds f.task };
+    ghost needs = { λ f. OutsideNeeds };
 
     ghost polls_reach = { λ f c r g d p. p.1 };
 
     ghost cancels_reach = { λ f c d p. rw p (C.reaches_itself c) };
 
-    ghost covers = { λ f c g d p. outsides_cover C.number C.work C.reaches C.watcher C.reaches_itself C.same_number C.has_handed_out C.watches_outside c d g.task p.1 p.2.0 p.2.1 };
+    ghost covers = { λ f c g d p. outsides_cover C.number C.work C.reaches C.watcher C.reaches_itself C.has_handed_out C.watches_threads c d p.1 p.2.0 };
 }

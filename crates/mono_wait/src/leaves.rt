@@ -1,11 +1,12 @@
 // Futures that wait for one source, and a value with a deadline.
 ghost use Rattle.std.specs.Prelude.{◌≡◌};
-ghost use Rattle.mono_machine.specs.Watches.{of_task};
 ghost use Rattle.mono_wait.specs.Leaves.{sleeps_cover, SleepNeeds};
 ghost use Rattle.mono_wait.specs.Deadlines.{TimeoutNeeds, timeout_reached, timeout_left, timeouts_cover};
 ghost use Rattle.mono_wait.specs.Handles.{handles_cover};
+ghost use Rattle.mono_wait.specs.Sources.{of_task};
 
 use crate::waits::{WaitContext, Waits};
+use mono_forms::FutureExt;
 use mono_model::{Host, Poll};
 use mono_task::{Context, JoinContext, JoinHandle, TaskFuture};
 use mono_time::{Sleep, Timeout};
@@ -36,8 +37,11 @@ impl<C: WaitContext, T: Waits<C>> Waits<C> for Timeout<T> {
 /// A future whose relations say that the context is reached, as every poll and every cancel promises.
 #[derive(Drop)]
 pub struct Reaching<T> {
+    /// The future.
     pub future: T,
 }
+
+impl<T> FutureExt for Reaching<T> {}
 
 impl<C: Context, T: TaskFuture<C>> TaskFuture<C> for Reaching<T> {
     type Output = T::Output;

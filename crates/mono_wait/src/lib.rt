@@ -5,7 +5,6 @@ mod asked_peers;
 mod asked_tickets;
 mod at_once;
 mod boxes;
-mod by_task;
 mod channels;
 mod countdown;
 mod delays;
@@ -32,9 +31,9 @@ mod streams;
 mod takes;
 mod tickets;
 mod ticks;
+mod unlikes;
 mod waits;
 
-pub use by_task::ByTask;
 pub use countdown::Countdown;
 pub use leaves::Reaching;
 pub use machines::MachineContext;

@@ -3,9 +3,10 @@ ghost use Rattle.std.specs.Prelude.{◌≡◌, ℕ, List, Some};
 ghost use Rattle.mono_model.specs.Table.{value_at};
 ghost use Rattle.mono_machine.specs.Machine.{Machine};
 ghost use Rattle.mono_machine.specs.Turns.{after_steps};
-ghost use Rattle.mono_machine.specs.Watches.{Source, is_stirred_in};
-ghost use Rattle.mono_machine.specs.Watches as watches;
+ghost use Rattle.mono_machine.specs.Watches as machine;
+ghost use Rattle.mono_machine.specs.Watches.{is_stirred_in};
 ghost use Rattle.mono_machine.specs.declared.events.TurnStep.{TurnStep};
+ghost use Rattle.mono_wait.specs.Sources.{in_machine};
 
 use crate::waits::WaitContext;
 
@@ -16,8 +17,8 @@ pub trait MachineContext: WaitContext {
 
     ghost leads: { (a b : Self) → Self.reaches a b → (steps : List TurnStep) × ((m : Machine) → stands a m → stands b (after_steps (Self.number a) steps m)) };
 
-    // the task that waits for a source in the context waits for it in the machine
-    ghost same_watcher: { (c : Self) (m : Machine) (x : Source) (t : ℕ) → stands c m → Self.watcher c x ≡ Some t → watches.watcher m x ≡ Some t };
+    // the task that waits for a source of the machine in the context waits for it in the machine
+    ghost same_watcher: { (c : Self) (m : Machine) (x : machine.Source) (t : ℕ) → stands c m → Self.watcher c (in_machine x) ≡ Some t → machine.watcher m x ≡ Some t };
 
     ghost same_stirred: { (c : Self) (m : Machine) → stands c m → is_stirred_in (value_at (Self.work c).table (Self.number c)) ≡ is_stirred_in (value_at m.tasks.table (Self.number c)) };
 }

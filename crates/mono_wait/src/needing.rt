@@ -1,8 +1,7 @@
 // A future whose maker names the sources that it needs.
 ghost use Rattle.std.specs.Prelude.{◌≡◌};
 ghost use Rattle.mono_model.specs.Poll.{OnPending};
-ghost use Rattle.mono_machine.specs.Watches.{Source};
-ghost use Rattle.mono_wait.specs.Sources.{Covers};
+ghost use Rattle.mono_wait.specs.Sources.{Source, Covers};
 ghost use Rattle.mono_wait.specs.Needings.{Keeps, source_of};
 
 use crate::waits::{WaitContext, Waits};

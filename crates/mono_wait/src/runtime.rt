@@ -13,7 +13,7 @@ use mono_task::SharedState;
 
 impl<F: Drop, O: Outcome + Drop, P: ThreadPool + Drop, U: Unpark, W: SharedState + Drop> WaitContext
     for Cx<F, O, P, U, W> {
-    ghost watcher = { cx_watcher W.names };
+    ghost watcher = { cx_watcher W.lists W.names };
 
     ghost watches_sleeps = { λ c s. refl };
 
@@ -42,7 +42,7 @@ impl<
     U: Unpark,
     W: SharedState + Drop,
 > RemoteWaitContext<U> for Cx<F, O, P, U, W> {
-    ghost watches_outside = { λ c u. refl };
+    ghost watches_threads = { λ c. refl };
 }
 
 impl<
@@ -52,7 +52,9 @@ impl<
     U: Unpark,
     W: SharedState + Drop,
 > SharedWaitContext<W> for Cx<F, O, P, U, W> {
-    ghost watches_peers = { λ c u. refl };
+    ghost watches_places = { λ c p. refl };
+
+    ghost watches_peers = { λ c. refl };
 }
 
 impl<
@@ -66,7 +68,7 @@ impl<
 
     ghost leads = { λ a b r. (r.parts.steps, r.parts.leads) };
 
-    ghost same_watcher = { λ c m x t st is. parts_same_watcher O.output_number hosting_of c.parts m c.has_handed_out (W.names c.shared) x t st is };
+    ghost same_watcher = { λ c m x t st is. parts_same_watcher O.output_number hosting_of c.parts m c.has_handed_out (W.lists c.shared) (W.names c.shared) x t st is };
 
     ghost same_stirred = { λ c m st. parts_same_stirred O.output_number hosting_of c.parts m c.parts.me st };
 }

@@ -2,8 +2,7 @@
 ghost use Rattle.std.specs.Prelude.{Option};
 ghost use Rattle.mono_model.specs.declared.poll.Poll.{Poll};
 ghost use Rattle.mono_stream.specs.Chains.{ThenPolls};
-ghost use Rattle.mono_machine.specs.Watches.{Source};
-ghost use Rattle.mono_wait.specs.Sources.{Covers};
+ghost use Rattle.mono_wait.specs.Sources.{Source, Covers};
 ghost use Rattle.mono_wait.specs.Frames.{frame_of, part_of, same_reached};
 ghost use Rattle.mono_wait.specs.Streams.{flow_of, iter_reached, iters_cover, map_reached, maps_cover, ThenNeeds, then_left, then_reached, thens_cover};
 ghost use Rattle.mono_wait.specs.ForEaches.{for_eaches_cover};

@@ -1,11 +1,11 @@
 // The sources of a future.
-ghost use Rattle.std.specs.Prelude.{◌≡◌, ℕ, true, Option, Result};
+ghost use Rattle.std.specs.Prelude.{◌≡◌, ℕ, true, List, Option, Result};
 ghost use Rattle.mono_model.specs.Table.{value_at};
 ghost use Rattle.mono_model.specs.declared.Woke.{Woke};
 ghost use Rattle.mono_model.specs.declared.poll.Poll.{Poll};
 ghost use Rattle.mono_model.specs.declared.task_error.TaskError.{TaskError};
-ghost use Rattle.mono_machine.specs.Watches.{Source, of_sleep, of_task, of_job, of_outside, of_peers, job_waiter, is_stirred_in};
-ghost use Rattle.mono_wait.specs.Sources.{Covers, waiter_in, waker_in, outside_watcher, peers_watcher};
+ghost use Rattle.mono_machine.specs.Watches.{job_waiter, is_stirred_in};
+ghost use Rattle.mono_wait.specs.Sources.{Source, of_sleep, of_task, of_job, of_place, of_threads, of_peers, Covers, waiter_in, waker_in, own_watcher};
 
 use mono_blocking::{JobContext, RemoteContext};
 use mono_inbox::Unpark;
@@ -32,18 +32,22 @@ pub trait JobWaitContext: WaitContext + JobContext {
 /// A context with remote wakers that exposes which task waits for threads: the running task, once a waker of it was
 /// handed out in this turn.
 pub trait RemoteWaitContext<U: Unpark>: WaitContext + RemoteContext<U> {
-    ghost watches_outside: { (c : Self) (u : ℕ) → Self.watcher c (of_outside u) ≡ outside_watcher (Self.has_handed_out c) (Self.number c) (Self.work c) u };
+    ghost watches_threads: { (c : Self) → Self.watcher c of_threads ≡ own_watcher (Self.has_handed_out c) (Self.number c) };
 }
 
-/// A context with a shared value that exposes which tasks wait for other tasks: those that the value lists.
+/// A context with a shared value that exposes where the running task waits in it: at each place at which the value lists
+/// the task, and for other tasks if the value names it.
 pub trait SharedWaitContext<W: SharedState>: WaitContext + SharedContext<W> {
-    ghost watches_peers: { (c : Self) (u : ℕ) → Self.watcher c (of_peers u) ≡ peers_watcher (W.names (Self.shared c) u) (Self.work c) u };
+    ghost watches_places: { (c : Self) (p : List ℕ) → Self.watcher c (of_place p) ≡ own_watcher (W.lists (Self.shared c) p (Self.number c)) (Self.number c) };
+
+    ghost watches_peers: { (c : Self) → Self.watcher c of_peers ≡ own_watcher (W.names (Self.shared c) (Self.number c)) (Self.number c) };
 }
 
 /// A future that exposes the sources for which it waits.
 ///
-/// If a poll is pending, the running task was registered at each source that the future needs, and at one at least, or
-/// was woken in its turn. It was so at some moment of the poll, and since then only calls of the turn came (`covers`).
+/// If a poll is pending, the future needs at least one source, or the running task was woken in its turn. The task was
+/// registered at each source that the future needs, or was woken. It was so at some moment of the poll, and since then
+/// only calls of the turn came (`covers`).
 /// So a later branch of a form does not change this, and owes nothing for it. A later call of the turn can undo it only
 /// by a drop of the source, which is an act of the turn.
 pub trait Waits<C: WaitContext>: TaskFuture<C> {

@@ -1,4 +1,6 @@
 // A task that waits for another thread, by a future that hands out a waker in each pending poll.
+ghost use Rattle.mono_channel.specs.Polls.{FindsNone};
+
 use mono_channel::{Receiver, Sender, channel};
 use mono_rt::{
     Host, Instant, ListClock, NoPool, Poll, RemoteContext, RemoteWaker, TaskFuture, ThreadDriver,
@@ -17,8 +19,11 @@ struct NextNumber {
     receiver: Receiver<u64, UnparkHandle>,
 }
 
+// A pending poll has found no number. The channel has the waker under its lock, where the other thread takes it.
 impl Outside<UnparkHandle> for NextNumber {
     type Output = u64;
+
+    ghost hands = { λ a t b. FindsNone a.receiver b.receiver };
 
     fn poll_outside<R: Host>(&mut self, rt: &R, waker: RemoteWaker<UnparkHandle>) -> Poll<u64> {
         match self.receiver.poll_recv(rt, &waker) {

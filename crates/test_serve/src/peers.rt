@@ -1,10 +1,10 @@
-// Tasks that wait for each other through a channel which they share, by futures that keep the number of their task.
+// Tasks that wait for each other through a channel which they share, by futures that say where they wait.
 use mono_rt::{
     Host, NoPool, Poll, Runtime, RuntimeBuilder, SharedContext, StepDriver, TaskFuture, TimeDriver,
 };
 use mono_sync::Only;
 use mono_sync::mpsc::{Channel, Recv, Send};
-use mono_wait::ByTask;
+use mono_wait::Reaching;
 use std::alloc::Global;
 use std::mem;
 use std::process::Abort;
@@ -16,9 +16,9 @@ type Shelf = Only<Channel<u64>>;
 #[derive(Drop)]
 enum Peer {
     /// It sends this number, and then each smaller one down to 1.
-    Sends(ByTask<Send<Shelf, u64>>, u64),
+    Sends(Reaching<Send<Shelf, u64>>, u64),
     /// It receives numbers down to 1; the numbers so far, as digits.
-    Receives(ByTask<Recv<Shelf, u64>>, u64),
+    Receives(Reaching<Recv<Shelf, u64>>, u64),
     /// It has answered.
     Over,
 }
@@ -26,12 +26,22 @@ enum Peer {
 impl Peer {
     // Returns a task that sends this number, and then each smaller one.
     fn sender(number: u64) -> Peer {
-        Peer::Sends(ByTask::new(Send::new(number)), number)
+        Peer::Sends(
+            Reaching {
+                future: Send::new(number),
+            },
+            number,
+        )
     }
 
     // Returns a task that has received these digits.
     fn receiver(digits: u64) -> Peer {
-        Peer::Receives(ByTask::new(Recv::new()), digits)
+        Peer::Receives(
+            Reaching {
+                future: Recv::new(),
+            },
+            digits,
+        )
     }
 
     // Polls the future of the task. None if the task goes on.
@@ -56,7 +66,7 @@ impl Peer {
         rt: &R,
         alloc: Global,
         cx: &mut C,
-        send: ByTask<Send<Shelf, u64>>,
+        send: Reaching<Send<Shelf, u64>>,
         number: u64,
     ) -> Option<Poll<u64>>
         ensures { C.reaches cx.old cx.new }
@@ -87,7 +97,7 @@ impl Peer {
         rt: &R,
         alloc: Global,
         cx: &mut C,
-        recv: ByTask<Recv<Shelf, u64>>,
+        recv: Reaching<Recv<Shelf, u64>>,
         digits: u64,
     ) -> Option<Poll<u64>>
         ensures { C.reaches cx.old cx.new }
