@@ -20,3 +20,4 @@ pub mod JoinedItems
 pub mod GatheredItems
 pub mod FutureOutputs
 pub mod Unfolds
+pub mod Nexts

@@ -2,6 +2,8 @@
 ghost use Rattle.std.specs.Prelude.{◌≡◌};
 ghost use Rattle.std.specs.Bool.{OnFalse};
 ghost use Rattle.mono_stream.specs.Ends.{is_last};
+ghost use Rattle.mono_stream.specs.Nexts.{NextGives};
+ghost use Rattle.mono_stream.specs.Spent.{next_spent};
 
 use crate::streams::Stream;
 use mono_model::{Host, Poll};
@@ -21,12 +23,14 @@ pub struct Next<'a, S> {
 impl<C: Context, S: Stream<C>> TaskFuture<C> for Next<'_, S> {
     type Output = Option<S::Item>;
 
-    ghost is_spent = { λ f. f.has_ended };
+    ghost is_spent = { next_spent };
 
     ghost can_poll = { λ f. OnFalse f.has_ended (S.can_poll f.stream.now) };
 
     // The poll is the stream's; it is the last if the stream has ended.
     ghost polls = { λ f c r g d. S.polls f.stream.now c r g.stream.now d × (g.has_ended ≡ is_last r) };
+
+    ghost gives = { λ f. NextGives S.Stream };
 
     ghost cancels = { λ f c d. d ≡ c };
 
