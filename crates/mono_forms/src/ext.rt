@@ -281,6 +281,8 @@ impl<W, T> FutureExt for watch::Changed<W, T> {}
 
 impl<W, T> FutureExt for watch::ChangedAt<W, T> {}
 
+impl<W, T, F> FutureExt for watch::WaitFor<W, T, F> {}
+
 impl<T: Drop, U: Unpark> FutureExt for mono_channel::Recv<'_, T, U> {}
 
 impl<T: Drop, U: Unpark> FutureExt for mono_channel::Send<'_, T, U> {}
