@@ -5,6 +5,7 @@ ghost use Rattle.mono_wait.specs.Sources.{Source, Covers};
 ghost use Rattle.mono_wait.specs.Needings.{Keeps, source_of};
 
 use crate::waits::{WaitContext, Waits};
+use mono_forms::FutureExt;
 use mono_model::{Host, Poll};
 use mono_task::TaskFuture;
 use std::alloc::Global;
@@ -39,6 +40,8 @@ pub struct Needing<N, A> {
     pub needs: N,
     pub future: A,
 }
+
+impl<N, A> FutureExt for Needing<N, A> {}
 
 impl<C: WaitContext, N: Names, A: TaskFuture<C>> TaskFuture<C> for Needing<N, A> {
     type Output = A::Output;

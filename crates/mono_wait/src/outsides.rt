@@ -5,6 +5,7 @@ ghost use Rattle.mono_wait.specs.Outsides.{OutsideNeeds, outsides_cover};
 
 use crate::waits::{RemoteWaitContext, Waits};
 use mono_blocking::RemoteContext;
+use mono_forms::FutureExt;
 use mono_inbox::{RemoteWaker, Unpark};
 use mono_model::{Host, Poll};
 use mono_task::TaskFuture;
@@ -51,6 +52,8 @@ impl<X, U> FromOutside<X, U> {
         }
     }
 }
+
+impl<X, U> FutureExt for FromOutside<X, U> {}
 
 /// The future answers what it waits for answers. It fails if out of memory.
 impl<U: Unpark, X: Outside<U>, C: RemoteContext<U>> TaskFuture<C> for FromOutside<X, U> {
