@@ -1,4 +1,5 @@
 pub mod Beginnings
+pub mod CountLemmas
 pub mod DeliveryLemmas
 pub mod Interleaving
 pub mod PollLemmas

@@ -1,6 +1,7 @@
 //! A channel between runtimes: senders in any thread, and one receiver whose task they wake.
 #![tactic(auto)]
 
+mod counts;
 mod ends;
 mod errors;
 mod gate;
@@ -11,6 +12,7 @@ mod owned;
 mod receiver;
 mod rule;
 mod sender;
+mod stakes;
 mod waiters;
 
 pub use ends::{Receiver, Sender};

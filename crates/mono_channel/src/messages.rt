@@ -2,7 +2,7 @@
 ghost use Rattle.std.specs.Prelude.{◌≡◌, true, false};
 ghost use Rattle.std.specs.declared.option.Option.TheVariants.{None, Some};
 ghost use Rattle.mono_model.specs.Poll.{OnPending};
-ghost use Rattle.mono_channel.specs.Polls.{PollsToReceive, PollsToSend};
+ghost use Rattle.mono_channel.specs.Polls.{PollsToReceive, PollsToSend, PolledEnd};
 ghost use Rattle.mono_channel.specs.Messages.{ReceiveGives, SendGives};
 ghost use Rattle.mono_channel.specs.Queues.{WasFull};
 ghost use Rattle.mono_channel.specs.Spent.{send_spent};
@@ -65,6 +65,7 @@ impl<T: Drop, U: Unpark> Receiver<T, U> {
         cx: &mut C,
     ) -> Poll<Result<Option<T>, AllocError>>
         ensures polled { PollsToReceive self.old result self.new }
+        ensures ended { PolledEnd result self.new }
         ensures handed { OnPending result (C.has_handed_out cx.new ≡ true) }
         ensures reached { C.reaches cx.old cx.new }
     {
@@ -137,7 +138,7 @@ impl<T: Drop, U: Unpark, C: RemoteContext<U>> TaskFuture<C> for Recv<'_, T, U> {
 
     ghost is_spent = { λ f. false };
 
-    ghost polls = { λ f c r g d. PollsToReceive f.receiver.now r g.receiver.now × C.reaches c d × OnPending r ((C.has_handed_out d ≡ true) × (g.task ≡ C.number c)) };
+    ghost polls = { λ f c r g d. PollsToReceive f.receiver.now r g.receiver.now × C.reaches c d × OnPending r ((C.has_handed_out d ≡ true) × (g.task ≡ C.number c)) × PolledEnd r g.receiver.now };
 
     ghost gives = { λ f. ReceiveGives f.receiver.now };
 
