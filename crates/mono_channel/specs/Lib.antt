@@ -2,6 +2,7 @@ pub mod Beginnings
 pub mod Delivery
 pub mod Ends
 pub mod Errors
+pub mod Kept
 pub mod Messages
 pub mod Owned
 pub mod Polls

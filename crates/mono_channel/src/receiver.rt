@@ -7,6 +7,7 @@ ghost use Rattle.mono_channel.specs.Delivery.{Arrived};
 ghost use Rattle.mono_channel.specs.Beginnings.{Begun};
 ghost use Rattle.mono_channel.specs.Ends.{sent_by, received_by, settled_by, shares_of, bound_of, is_open, is_over, has_ended, closed, end_of, KeepsEnd, Receives, IsPair};
 ghost use Rattle.mono_channel.specs.Stakes.{IsStakeOf};
+ghost use Rattle.mono_channel.specs.Kept.{KeepsAll};
 ghost use Rattle.mono_channel.specs.Polls.{TriesToReceive, PollsToReceive, PolledEnd, first_of};
 ghost use Rattle.mono_channel.specs.Errors.{is_disconnected};
 ghost use Rattle.mono_model.specs.declared.poll.Poll.TheVariants.{Ready};
@@ -61,7 +62,7 @@ impl<T: Drop, U: Unpark> Receiver<T, U> {
     /// settled senders sent has arrived. It changes nothing.
     pub fn learn(&mut self)
         ensures begun { Begun (shares_of self.old) (received_by self.old) (settled_by self.old) }
-        ensures same { IsPair self.new self.old × (received_by self.new ≡ received_by self.old) × (settled_by self.new ≡ settled_by self.old) × (shares_of self.new ≡ shares_of self.old) × KeepsEnd self.old self.new }
+        ensures same { KeepsAll self.old self.new }
     {
         self.shared.queue.learn_as::<Received>(&mut self.end);
     }
@@ -151,7 +152,7 @@ impl<T: Drop, U: Unpark> Receiver<T, U> {
     pub fn len<R: Host>(&mut self, rt: &R) -> usize
         ensures most { result ≤ bound_of self.old }
         ensures queued { Held result (λ items. Arrived (shares_of self.old) (received_by self.old ++ items) (settled_by self.old)) }
-        ensures same { IsPair self.new self.old × (received_by self.new ≡ received_by self.old) × (settled_by self.new ≡ settled_by self.old) × (shares_of self.new ≡ shares_of self.old) × KeepsEnd self.old self.new }
+        ensures same { KeepsAll self.old self.new }
     {
         let _gate = self.shared.gate.lock(rt);
         self.shared.queue.len_as::<Received, R>(rt, &mut self.end)
