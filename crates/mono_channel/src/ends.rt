@@ -23,8 +23,8 @@ pub struct Sender<T: Drop, U: Unpark> {
     // what it counts for among the open senders
     pub(crate) stake: Stake,
     pub(crate) is_closed: bool,
-    // the round in which its task last began to wait, and the place of its waker
-    pub(crate) seat: Option<(u64, usize)>,
+    // its seat in the line of those who wait, from its first pending poll until its message is sent
+    pub(crate) seat: Option<u64>,
 }
 
 /// Receives the messages of all senders, in its own thread.

@@ -7,6 +7,7 @@ mod errors;
 mod gate;
 mod guards;
 pub mod laws;
+mod lines;
 mod messages;
 mod owned;
 mod receiver;

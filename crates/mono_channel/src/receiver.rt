@@ -17,7 +17,7 @@ use crate::errors::TryRecvError;
 use crate::gate::{take_or_refuse, take_or_wait};
 use crate::rule::{End, Received, Settles};
 use crate::stakes::{SenderCount, Stake};
-use crate::waiters::{Waiter, wake_all};
+use crate::waiters::{Waiter, wake_all, wake_first};
 use mono_inbox::{Parker, RemoteWaker, Unpark};
 use mono_model::{Host, Poll};
 use std::alloc::{AllocError, Global};
@@ -67,7 +67,7 @@ impl<T: Drop, U: Unpark> Receiver<T, U> {
         self.shared.queue.learn_as::<Received>(&mut self.end);
     }
 
-    /// Takes the first message at once, and then wakes the tasks that wait to send.
+    /// Takes the first message at once, and then wakes the first that waits to send.
     ///
     /// Refused if no message is queued: with `Disconnected` if this receiver or each sender was closed, else with `Empty`
     /// (`ended`). Then all that settled senders sent has been received.
@@ -75,8 +75,8 @@ impl<T: Drop, U: Unpark> Receiver<T, U> {
         ensures tried { TriesToReceive self.old result self.new }
         ensures ended { IfErr result (λ e. has_ended self.new ≡ is_disconnected e) }
     {
-        let (message, waiting) = self.look(rt)?;
-        wake_all(rt, waiting);
+        let (message, called) = self.look(rt)?;
+        wake_first(rt, called);
         Ok(message)
     }
 
@@ -192,8 +192,8 @@ impl<T: Drop, U: Unpark> Receiver<T, U> {
         ensures ended { PolledEnd result self.new }
     {
         match self.look_or_wait(rt, waiter) {
-            Ok((message, waiting)) => {
-                wake_all(rt, waiting);
+            Ok((message, called)) => {
+                wake_first(rt, called);
                 Poll::Ready(Ok(Some(message)))
             }
             Err(TryRecvError::Disconnected) => Poll::Ready(Ok(None)),
@@ -201,8 +201,8 @@ impl<T: Drop, U: Unpark> Receiver<T, U> {
         }
     }
 
-    // Takes the first message under the lock, with those who wait to send: they are to be woken.
-    fn look<R: Host>(&mut self, rt: &R) -> Result<(T, Vec<Waiter<U>>), TryRecvError>
+    // Takes the first message under the lock, and calls the first that waits to send: it is to be woken.
+    fn look<R: Host>(&mut self, rt: &R) -> Result<(T, Option<Waiter<U>>), TryRecvError>
         ensures tried { TriesToReceive self.old (first_of result) self.new }
         ensures ended { IfErr result (λ e. has_ended self.new ≡ is_disconnected e) }
     {
@@ -216,7 +216,7 @@ impl<T: Drop, U: Unpark> Receiver<T, U> {
         &mut self,
         rt: &R,
         waiter: Waiter<U>,
-    ) -> Result<(T, Vec<Waiter<U>>), TryRecvError>
+    ) -> Result<(T, Option<Waiter<U>>), TryRecvError>
         ensures tried { TriesToReceive self.old (first_of result) self.new }
         ensures ended { IfErr result (λ e. has_ended self.new ≡ is_disconnected e) }
     {

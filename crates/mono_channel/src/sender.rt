@@ -14,7 +14,7 @@ ghost use Rattle.mono_model.specs.Poll.{OnPending};
 
 use crate::ends::{Receiver, Sender, Shared};
 use crate::errors::{SendError, TrySendError};
-use crate::gate::{Gate, leave, put};
+use crate::gate::{Gate, leave, send};
 use crate::rule::{End, Joins, Opens, Sent, queue_of};
 use crate::stakes::{SenderCount, Stake};
 use crate::waiters::{Waiter, wake_first};
@@ -123,11 +123,36 @@ impl<T: Drop, U: Unpark> Sender<T, U> {
         ensures same { IsPair self.new self.old × (shares_of self.new ≡ shares_of self.old) × (is_open self.new ≡ is_open self.old) }
     {
         let mut gate = self.shared.gate.lock(rt);
-        put(rt, &mut gate, &self.shared.queue, &mut self.end, message)
+        let queue = &self.shared.queue;
+        send(rt, &mut gate, queue, &mut self.end, &mut self.seat, message)
     }
 
-    /// Sends the message, or keeps it and waits while each place is taken (`full`): the receiver then wakes this waker's task
-    /// when it takes a message and when it closes the channel. A further poll takes the place of an earlier one in line.
+    /// Gives up waiting: the sender leaves the line of those who wait. If it had been called, since a place was free, the
+    /// next in line is called in its place. It does nothing if the sender does not wait.
+    ///
+    /// Call it if a pending `poll_send` is not polled again and the sender stays open. The futures do it themselves, and so
+    /// does `close`.
+    pub fn leave_line<R: Host>(&mut self, rt: &R)
+        ensures { self.new ≡ self.old }
+    {
+        let next = self.give_up(rt);
+        wake_first(rt, next);
+    }
+
+    // Leaves the line under the lock. The one that is called in its place is to be woken.
+    fn give_up<R: Host>(&mut self, rt: &R) -> Option<Waiter<U>>
+        ensures { self.new ≡ self.old }
+    {
+        let Some(seat) = mem::replace(&mut self.seat, None) else {
+            return None;
+        };
+        let mut gate = self.shared.gate.lock(rt);
+        gate.line.give_up(seat)
+    }
+
+    /// Sends the message, or keeps it and waits in line while each place is taken (`full`). Each time the receiver takes a
+    /// message it wakes the task of the first in line; if it closes the channel, it wakes all. One that is woken and finds
+    /// each place taken again stands in line where it did.
     ///
     /// Fails if the channel or this sender was closed, or there was no memory to wait in; the message comes back. It does
     /// nothing if there is no message.
@@ -151,7 +176,10 @@ impl<T: Drop, U: Unpark> Sender<T, U> {
         };
         match waker.clone() {
             Ok(waker) => self.send_or_pend(rt, Waiter::Task(waker), again, message),
-            Err(_) => Poll::Ready(Err(SendError::Memory(again))),
+            Err(_) => {
+                self.leave_line(rt);
+                Poll::Ready(Err(SendError::Memory(again)))
+            }
         }
     }
 
@@ -173,6 +201,7 @@ impl<T: Drop, U: Unpark> Sender<T, U> {
             Err(TrySendError::Full(back)) => back,
         };
         let Ok(parker) = Parker::new(alloc) else {
+            self.leave_line(rt);
             return Err(SendError::Memory(again));
         };
         let mut kept = Some(again);
@@ -202,7 +231,10 @@ impl<T: Drop, U: Unpark> Sender<T, U> {
         }
         match parker.handle() {
             Ok(handle) => self.send_or_pend(rt, Waiter::Thread(handle), first, message),
-            Err(_) => Poll::Ready(Err(SendError::Memory(first))),
+            Err(_) => {
+                self.leave_line(rt);
+                Poll::Ready(Err(SendError::Memory(first)))
+            }
         }
     }
 
@@ -230,13 +262,15 @@ impl<T: Drop, U: Unpark> Sender<T, U> {
         self.is_closed || self.shared.gate.lock(rt).is_stopped
     }
 
-    /// Closes this sender, and the channel if it was the last that was open: then wakes who waits to receive.
+    /// Closes this sender, which leaves the line, and the channel if it was the last that was open: then wakes who waits to
+    /// receive.
     pub fn close<R: Host>(&mut self, rt: &R)
         ensures { self.new ≡ closed self.old }
     {
         if self.is_closed {
             return;
         }
+        self.leave_line(rt);
         let first = self.go(rt);
         wake_first(rt, first);
     }
@@ -291,16 +325,14 @@ impl<T: Drop, U: Unpark> Sender<T, U> {
         ensures same { IsPair self.new self.old × (shares_of self.new ≡ shares_of self.old) × (is_open self.new ≡ is_open self.old) }
     {
         let mut gate = self.shared.gate.lock(rt);
-        match put(rt, &mut gate, &self.shared.queue, &mut self.end, message) {
+        let queue = &self.shared.queue;
+        match send(rt, &mut gate, queue, &mut self.end, &mut self.seat, message) {
             Ok(first) => Ok(first),
             Err(TrySendError::Closed(back)) => Err((TrySendError::Closed(back), false)),
-            Err(TrySendError::Full(back)) => match gate.wait_to_send(waiter, self.seat) {
-                Ok(seat) => {
-                    self.seat = Some(seat);
-                    Err((TrySendError::Full(back), true))
-                }
-                Err(_) => Err((TrySendError::Full(back), false)),
-            },
+            Err(TrySendError::Full(back)) => {
+                self.seat = gate.line.enter(waiter, self.seat).ok();
+                Err((TrySendError::Full(back), self.seat.is_some()))
+            }
         }
     }
 }
