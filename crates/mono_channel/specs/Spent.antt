@@ -2,5 +2,5 @@
 use Rattle.std.specs.Prelude.{Bool, is_none}
 use Rattle.mono_channel.specs.declared.messages.Send.{Send}
 
-abbrev pub send_spent : {T U : Type 0} → Send T U → Bool
+abbrev pub send_spent : {T U R : Type 0} → Send T U R → Bool
 send_spent f = is_none f.message

@@ -15,12 +15,23 @@ use std::alloc::{AllocError, Global};
 
 /// A future that sends a message, over a sender that it owns (`Sender::into_send`). It answers the sender, too.
 ///
-/// Use it in a loop, whose next turn takes the sender. A future that is given up drops its sender, which is not closed:
-/// under a timeout, in a race or in a select, use `Sender::send`.
-#[derive(Drop)]
-pub struct IntoSend<T: Drop, U: Unpark> {
+/// Use it in a loop, whose next turn takes the sender. A future that is given up drops its sender, which leaves the line
+/// and is not closed: under a timeout, in a race or in a select, use `Sender::send`.
+pub struct IntoSend<T: Drop, U: Unpark, R: Host + Drop> {
     // the sender and the message, until the future has answered
     pub(crate) inner: Option<(Sender<T, U>, T)>,
+    // the handle with which the sender leaves the line
+    pub(crate) rt: R,
+}
+
+impl<T: Drop, U: Unpark, R: Host + Drop> Drop for IntoSend<T, U, R> {
+    fn drop(self) {
+        let IntoSend { inner, rt } = self;
+        if let Some((sender, _)) = inner {
+            let mut sender = sender;
+            sender.leave_line(&rt);
+        }
+    }
 }
 
 /// A future that receives the next message, over a receiver that it owns (`Receiver::into_recv`). It answers the
@@ -35,12 +46,14 @@ pub struct IntoRecv<T: Drop, U: Unpark> {
 }
 
 impl<T: Drop, U: Unpark> Sender<T, U> {
-    /// Returns a future that sends the message and then answers the sender.
-    pub fn into_send(self, message: T) -> IntoSend<T, U>
+    /// Returns a future that sends the message and then answers the sender. If it is given up, the sender leaves the line by
+    /// this handle.
+    pub fn into_send<R: Host + Drop>(self, rt: R, message: T) -> IntoSend<T, U, R>
         ensures { result.inner ≡ Some (self, message) }
     {
         IntoSend {
             inner: Some((self, message)),
+            rt,
         }
     }
 
@@ -80,7 +93,7 @@ impl<T: Drop, U: Unpark> Receiver<T, U> {
 
 /// The future answers the sender once the message is queued. It fails if the channel or the sender was closed, or if out
 /// of memory; then the message comes back.
-impl<T: Drop, U: Unpark, C: RemoteContext<U>> TaskFuture<C> for IntoSend<T, U> {
+impl<T: Drop, U: Unpark, H: Host + Drop, C: RemoteContext<U>> TaskFuture<C> for IntoSend<T, U, H> {
     type Output = (Sender<T, U>, Result<(), SendError<T>>);
 
     ghost is_spent = { λ f. is_none f.inner };
