@@ -1,14 +1,14 @@
 -- The line of those who wait to send: each stands at its seat, lower seats first.
-use Rattle.std.specs.Prelude.{⊤, ◌≡◌, ◌<◌, ◌⊎◌, ℕ, Bool, true, false, List, [], ◌∷◌, ◌++◌, Option, Some, None}
+use Rattle.std.specs.Prelude.{◌≡◌, ◌<◌, ℕ, List, [], ◌∷◌, ◌++◌, Option, Some, None}
 use Rattle.std.specs.Ordering.{nat_cmp}
+use Rattle.std.specs.List.{AllByRecursion}
 use Rattle.std.specs.Map.{lookup, remove_entry}
 use Rattle.std.specs.BTreeMap.{insert_entry, is_at}
 
 module _ {W : Type 0} where
   -- each seat in line was given out
   abbrev pub AreBelow : ℕ → List (ℕ × W) → Type 0
-  AreBelow next [] = ⊤
-  AreBelow next (e ∷ es) = (e.0 < next) × AreBelow next es
+  AreBelow next line = AllByRecursion (λ e. e.0 < next) line
 
   -- One that begins to wait gets the next seat, at the back. One that waited before stands at its seat again: behind those
   -- that began to wait before it, and before those that did later.

@@ -1,5 +1,6 @@
 // The line of those who wait to send.
 ghost use Rattle.std.specs.Prelude.{◌≡◌, ◌+◌, ◌<◌, true, false, [], ◌∷◌, ◌++◌, Some, None, IfOk, IfErr, is_some};
+ghost use Rattle.std.proofs.Props.{props};
 ghost use Rattle.mono_channel.specs.Lines.{AreBelow, Enters, Calls, GivesUp, standing_at, without, spent};
 
 use crate::waiters::Waiter;
@@ -15,7 +16,7 @@ pub(crate) struct Line<U: Unpark> {
     waiters: BTreeMap<u64, Waiter<U>>,
     // the seat of the next who begins to wait
     next: u64,
-    ghost given_out: { AreBelow next waiters.entries },
+    ghost given_out: { AreBelow next waiters.entries } by { Prim.hlevel props },
 }
 
 impl<U: Unpark> Line<U> {

@@ -20,7 +20,7 @@ struct Bench {
     tasks: Tasks,
 }
 
-fn bench<R: Host + Abort>(rt: &R, alloc: Global) -> Bench {
+fn a_bench<R: Host + Abort>(rt: &R, alloc: Global) -> Bench {
     let tasks = two_tasks(rt, alloc);
     let (mut first, receiver) = a_channel(alloc).expect(rt, "memory");
     let mut second = first.try_clone(rt).expect(rt, "a count");
@@ -56,7 +56,7 @@ fn second_waits<R: Host + Abort>(rt: &R, bench: &mut Bench) -> bool {
 #[test]
 fn the_first_that_waits_is_woken_first(rt: HostRuntime) {
     let alloc = rt.alloc();
-    let mut bench = bench(&rt, alloc);
+    let mut bench = a_bench(&rt, alloc);
     assert!(rt; second_waits(&rt, &mut bench));
     assert!(rt; first_waits(&rt, &mut bench));
     assert_eq!(rt; wakes(&rt, alloc, &mut bench), 7);
@@ -66,7 +66,7 @@ fn the_first_that_waits_is_woken_first(rt: HostRuntime) {
 #[test]
 fn one_that_is_woken_and_finds_no_place_is_first_again(rt: HostRuntime) {
     let alloc = rt.alloc();
-    let mut bench = bench(&rt, alloc);
+    let mut bench = a_bench(&rt, alloc);
     assert_eq!(rt; wakes(&rt, alloc, &mut bench), 7);
     assert!(rt; bench.third.try_send(&rt, 14).is_ok());
     assert!(rt; first_waits(&rt, &mut bench));
@@ -77,7 +77,7 @@ fn one_that_is_woken_and_finds_no_place_is_first_again(rt: HostRuntime) {
 #[test]
 fn two_that_find_no_place_keep_their_order(rt: HostRuntime) {
     let alloc = rt.alloc();
-    let mut bench = bench(&rt, alloc);
+    let mut bench = a_bench(&rt, alloc);
     assert_eq!(rt; wakes(&rt, alloc, &mut bench), 7);
     assert_eq!(rt; wakes(&rt, alloc, &mut bench), 8);
     assert!(rt; fill(&rt, &mut bench.third));
@@ -95,7 +95,7 @@ fn two_that_find_no_place_keep_their_order(rt: HostRuntime) {
 #[test]
 fn one_that_gives_up_passes_its_turn_on(rt: HostRuntime) {
     let alloc = rt.alloc();
-    let mut bench = bench(&rt, alloc);
+    let mut bench = a_bench(&rt, alloc);
     assert_eq!(rt; wakes(&rt, alloc, &mut bench), 7);
     bench.first.leave_line(&rt);
     assert_eq!(rt; woken(&rt, alloc, &bench.tasks), 8);
@@ -106,7 +106,7 @@ fn one_that_gives_up_passes_its_turn_on(rt: HostRuntime) {
 #[test]
 fn one_that_closes_passes_its_turn_on(rt: HostRuntime) {
     let alloc = rt.alloc();
-    let mut bench = bench(&rt, alloc);
+    let mut bench = a_bench(&rt, alloc);
     assert_eq!(rt; wakes(&rt, alloc, &mut bench), 7);
     bench.first.close(&rt);
     assert_eq!(rt; woken(&rt, alloc, &bench.tasks), 8);
@@ -115,7 +115,7 @@ fn one_that_closes_passes_its_turn_on(rt: HostRuntime) {
 #[test]
 fn one_that_leaves_before_its_turn_wakes_nobody(rt: HostRuntime) {
     let alloc = rt.alloc();
-    let mut bench = bench(&rt, alloc);
+    let mut bench = a_bench(&rt, alloc);
     bench.first.leave_line(&rt);
     assert_eq!(rt; woken(&rt, alloc, &bench.tasks), 0);
     assert_eq!(rt; wakes(&rt, alloc, &mut bench), 8);
@@ -128,7 +128,7 @@ fn one_that_leaves_before_its_turn_wakes_nobody(rt: HostRuntime) {
 #[test]
 fn one_that_sends_leaves_the_line(rt: HostRuntime) {
     let alloc = rt.alloc();
-    let mut bench = bench(&rt, alloc);
+    let mut bench = a_bench(&rt, alloc);
     assert_eq!(rt; wakes(&rt, alloc, &mut bench), 7);
     assert!(rt; bench.second.try_send(&rt, 13).is_ok());
     assert!(rt; first_waits(&rt, &mut bench));
@@ -151,7 +151,7 @@ fn gives_up_by_a_future<R: Host + Abort + Copy + Drop>(rt: R, alloc: Global, ben
 #[test]
 fn a_future_that_is_dropped_passes_its_turn_on(rt: HostRuntime) {
     let alloc = rt.alloc();
-    let mut bench = bench(&rt, alloc);
+    let mut bench = a_bench(&rt, alloc);
     gives_up_by_a_future(rt, alloc, &mut bench);
     assert_eq!(rt; woken(&rt, alloc, &bench.tasks), 8);
 }
@@ -165,7 +165,7 @@ fn a_future_that_is_dropped_with_its_sender_passes_its_turn_on(rt: HostRuntime) 
         tasks,
         second: _second,
         third: _third,
-    } = bench(&rt, alloc);
+    } = a_bench(&rt, alloc);
     let inbox = Inbox::new(alloc, 8, NoUnpark).expect(&rt, "memory");
     let mut cx = nothing(rt, alloc, &inbox);
     let mut send = first.into_send(rt, 14);
