@@ -3,5 +3,6 @@ pub mod CountLemmas
 pub mod DeliveryLemmas
 pub mod Interleaving
 pub mod LineLemmas
+pub mod PlaceLemmas
 pub mod PollLemmas
 pub mod Weights

@@ -167,9 +167,11 @@ impl<T: Drop, U: Unpark> Receiver<T, U> {
 
     /// Returns whether the channel was closed at one moment of the call: by this end, or since each sender was. Then it stays
     /// closed.
-    pub fn is_closed<R: Host>(&self, rt: &R) -> bool {
-        let gate = self.shared.gate.lock(rt);
-        gate.is_stopped || self.shared.senders.is_zero()
+    pub fn is_closed<R: Host>(&self, rt: &R) -> bool
+        ensures { is_open self.now ≡ false → result ≡ true }
+    {
+        let _gate = self.shared.gate.lock(rt);
+        self.is_closed || self.shared.senders.is_zero()
     }
 
     /// Closes the channel, and then wakes those who wait to send, in the order in which they began to. Messages that are

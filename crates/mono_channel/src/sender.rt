@@ -7,7 +7,7 @@ ghost use Rattle.mono_channel.specs.Ends.{sent_by, received_by, settled_by, shar
 ghost use Rattle.mono_channel.specs.Stakes.{IsStakeOf};
 ghost use Rattle.mono_channel.specs.Delivery.{all_shares, shares_kept, shares_given};
 ghost use Rattle.mono_channel.specs.Errors.{message_of, IfFull, OnFull};
-ghost use Rattle.mono_channel.specs.Queues.{IsQueued, WasFull, HadRoom};
+ghost use Rattle.mono_channel.specs.Queues.{IsQueued, WasFull, HadRoom, IsFullIfTaken};
 ghost use Rattle.mono_channel.specs.Polls.{PollsToSend};
 ghost use Rattle.mono_model.specs.declared.poll.Poll.TheVariants.{Ready};
 ghost use Rattle.mono_model.specs.Poll.{OnPending};
@@ -98,12 +98,15 @@ impl<T: Drop, U: Unpark> Sender<T, U> {
     /// Queues a message at once, and then wakes the task that waits to receive.
     ///
     /// Refused with `Closed` if the channel or this sender was closed, and with `Full` if each place is taken: as many
-    /// messages were queued as the channel has places (`full`). If the message is queued, fewer were (`room`). A refused
-    /// message comes back. A closed sender sends none (`open`).
+    /// messages were queued as the channel has places (`full`). If the message is queued, fewer were (`room`). So an open
+    /// channel answers `Full` if and only if each place is taken (`places`). A refused message comes back. A closed sender
+    /// sends none (`open`).
+    #[tactic(auto, using(crate::proofs::PlaceLemmas::full_if_taken))]
     pub fn try_send<R: Host>(&mut self, rt: &R, message: T) -> Result<(), TrySendError<T>>
         ensures sent { MatchResult result (λ done. sent_by self.new ≡ sent_by self.old ++ message ∷ []) (λ e. (message_of e ≡ message) × (sent_by self.new ≡ sent_by self.old)) }
         ensures full { OnFull result (WasFull self.old) }
         ensures room { OnOk result (HadRoom self.old) }
+        ensures places { IsFullIfTaken self.old result }
         ensures open { OnOk result (is_open self.old ≡ true) × OnFull result (is_open self.old ≡ true) }
         ensures same { IsPair self.new self.old × (shares_of self.new ≡ shares_of self.old) × (is_open self.new ≡ is_open self.old) }
     {
@@ -258,7 +261,9 @@ impl<T: Drop, U: Unpark> Sender<T, U> {
     }
 
     /// Returns whether this sender or the channel was closed at one moment of the call. Then it stays closed.
-    pub fn is_closed<R: Host>(&self, rt: &R) -> bool {
+    pub fn is_closed<R: Host>(&self, rt: &R) -> bool
+        ensures { is_open self.now ≡ false → result ≡ true }
+    {
         self.is_closed || self.shared.gate.lock(rt).is_stopped
     }
 

@@ -1,5 +1,4 @@
 use Rattle.std.proofs.Common.{rules, ◌<◌, sym, subst, arith}
-use Rattle.std.proofs.lemmas.Bool.Decides.{nat_tests}
 use Rattle.mono_channel.specs.declared.stakes.Standing.{Standing}
 use Rattle.mono_channel.proofs.CountLemmas.{enters_as, hands}
 use Rattle.mono_channel.proofs.stakes.SenderCount.enter.Goals as goal
