@@ -1,9 +1,10 @@
 // Futures that send and receive, over an end that each owns and answers.
-ghost use Rattle.std.specs.Prelude.{◌≡◌, IfOk, IfErr, is_none};
+ghost use Rattle.std.specs.Prelude.{◌≡◌, IfOk, IfErr};
 ghost use Rattle.std.specs.declared.option.Option.TheVariants.{None, Some};
 ghost use Rattle.mono_model.specs.declared.poll.Poll.TheVariants.{Ready, Pending};
 ghost use Rattle.mono_channel.specs.Polls.{PollsToReceive, PollsToSend, FindsNone};
 ghost use Rattle.mono_channel.specs.Owned.{IntoSendGives, IntoRecvGives};
+ghost use Rattle.mono_channel.specs.Spent.{sends_by, receives_by, into_send_spent, into_recv_spent};
 
 use crate::ends::{Receiver, Sender};
 use crate::errors::SendError;
@@ -49,7 +50,7 @@ impl<T: Drop, U: Unpark> Sender<T, U> {
     /// Returns a future that sends the message and then answers the sender. If it is given up, the sender leaves the line by
     /// this handle.
     pub fn into_send<R: Host + Drop>(self, rt: R, message: T) -> IntoSend<T, U, R>
-        ensures { result.inner ≡ Some (self, message) }
+        ensures { sends_by result ≡ Some (self, message) }
     {
         IntoSend {
             inner: Some((self, message)),
@@ -83,7 +84,7 @@ impl<T: Drop, U: Unpark> Sender<T, U> {
 impl<T: Drop, U: Unpark> Receiver<T, U> {
     /// Returns a future that receives the next message and then answers the receiver.
     pub fn into_recv(self) -> IntoRecv<T, U>
-        ensures { result.receiver ≡ Some self }
+        ensures { receives_by result ≡ Some self }
     {
         IntoRecv {
             receiver: Some(self),
@@ -96,9 +97,9 @@ impl<T: Drop, U: Unpark> Receiver<T, U> {
 impl<T: Drop, U: Unpark, H: Host + Drop, C: RemoteContext<U>> TaskFuture<C> for IntoSend<T, U, H> {
     type Output = (Sender<T, U>, Result<(), SendError<T>>);
 
-    ghost is_spent = { λ f. is_none f.inner };
+    ghost is_spent = { λ f. into_send_spent f };
 
-    ghost gives = { λ f x. IntoSendGives f.inner x.0 x.1 };
+    ghost gives = { λ f x. IntoSendGives (sends_by f) x.0 x.1 };
 
     ghost cancels = { λ f c d. d ≡ c };
 
@@ -132,9 +133,9 @@ impl<T: Drop, U: Unpark, H: Host + Drop, C: RemoteContext<U>> TaskFuture<C> for 
 impl<T: Drop, U: Unpark, C: RemoteContext<U>> TaskFuture<C> for IntoRecv<T, U> {
     type Output = (Receiver<T, U>, Result<Option<T>, AllocError>);
 
-    ghost is_spent = { λ f. is_none f.receiver };
+    ghost is_spent = { λ f. into_recv_spent f };
 
-    ghost gives = { λ f x. IntoRecvGives f.receiver x.0 x.1 };
+    ghost gives = { λ f x. IntoRecvGives (receives_by f) x.0 x.1 };
 
     ghost cancels = { λ f c d. d ≡ c };
 
