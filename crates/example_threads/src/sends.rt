@@ -40,7 +40,9 @@ pub fn send_all<R: Host + Copy>(
     ensures { IfSome result (λ done. IsSenderAfter sender count done.value done.number) }
 {
     let task = repeat((sender, count), |(sender, left): (Tx, u64)| {
-        sender.into_send(left).map(move |sent: (Tx, Result<(), SendError<u64>>)| after(left, sent))
+        sender.into_send(rt, left).map(move |sent: (Tx, Result<(), SendError<u64>>)| after(
+            left, sent,
+        ))
     });
     let driver = ThreadDriver::new(alloc, SystemClock::new(rt)).ok()?;
     match start::<_, _, _, NoPool, R>(&rt, alloc, driver, task, u64::MAX) {

@@ -1,24 +1,26 @@
 //! Two runtimes that talk: one sends numbers from its thread, and the other adds them up in this one.
-ghost use Rattle.std.specs.Prelude.{◌≡◌, ◌≤◌, ◌%◌, ◌^◌, IfSome};
+ghost use Rattle.std.specs.Prelude.{◌≡◌, ◌≤◌, ◌%◌, ◌^◌, true, IfSome};
 ghost use Rattle.std.specs.List.{sum};
-ghost use Rattle.mono_channel.specs.Ends.{received_by};
+ghost use Rattle.mono_channel.specs.Ends.{received_by, has_ended};
 ghost use Rattle.example_threads.specs.Channels.{down_from};
 
 use crate::numbered::Numbered;
 use crate::receives::{Rx, receive_all};
 use crate::sends::send_all;
-use mono_channel::channel;
 use mono_channel::laws::{alone_arrives, arrived_interleaves};
+use mono_channel::{TryRecvError, channel};
 use mono_rt::Host;
 use std::alloc::Global;
 use std::thread;
 
 /// Sends the numbers from `count` down to 1, and receives them in this thread. Returns the receiver, with their sum modulo
-/// 2^64: it has received exactly these numbers, in order, each once. Returns `None` if not all were sent and received.
+/// 2^64: it has received exactly these numbers, in order, each once, and the channel has ended (`ended`). Returns `None` if
+/// not all were sent and received.
 pub fn two_runtimes<R: Host + Copy + Send>(rt: R, alloc: Global, count: u64) -> Option<Numbered<Rx>>
     requires { 1 ≤ count }
     ensures received { IfSome result (λ done. received_by done.value ≡ down_from count) }
     ensures added { IfSome result (λ done. done.number ≡ sum (down_from count) % 2 ^ 64) }
+    ensures ended { IfSome result (λ done. has_ended done.value ≡ true) }
 {
     let Ok((sender, receiver)) = channel(alloc, 8) else {
         return None;
@@ -34,6 +36,7 @@ pub fn two_runtimes<R: Host + Copy + Send>(rt: R, alloc: Global, count: u64) -> 
     alone_arrives::<u64>();
     match done.value.try_recv(&rt) {
         Ok(_) => None,
-        Err(_) => Some(done),
+        Err(TryRecvError::Empty) => None,
+        Err(TryRecvError::Disconnected) => Some(done),
     }
 }

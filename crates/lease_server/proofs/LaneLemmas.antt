@@ -11,7 +11,7 @@ use Rattle.lease_server.specs.declared.answers.Answer.{Answer}
 use Rattle.lease_server.specs.declared.texts.Text.{Text}
 use Rattle.lease_server.specs.Answers.{refusals_of}
 use Rattle.lease_server.specs.Texts.{said_by, said_by_all}
-use Rattle.lease_server.specs.declared.outlets.Outlet.{Outlet}
+use Rattle.lease_server.specs.OutletViews.{Outlet}
 use Rattle.lease_server.specs.declared.lanes.Lane.{Lane}
 use Rattle.lease_server.specs.declared.refusals.Refusals.{Refusals}
 use Rattle.lease_server.proofs.AnswerLemmas.{refusals_join}

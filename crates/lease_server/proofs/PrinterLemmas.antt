@@ -7,7 +7,7 @@ use Rattle.std.specs.declared.alloc.AllocError.{AllocError}
 use Rattle.mono_model.specs.declared.poll.Poll.{Poll}
 use Rattle.mono_model.specs.declared.poll.Poll.TheVariants.{Ready}
 use Rattle.mono_text.specs.Environment.{HasWritten, HasWrittenPrefix}
-use Rattle.mono_channel.specs.Ends.{Ends, received_by}
+use Rattle.mono_channel.specs.Ends.{Ends, received_by, closed}
 use Rattle.mono_channel.specs.Polls.{HasReceived, FindsNone, PollsToReceive}
 use Rattle.lease_server.specs.Answers.{answer_line, answer_lines}
 use Rattle.lease_server.specs.Texts.{said_by, said_by_all}
@@ -84,7 +84,7 @@ module _ {K : Type 0} (written : K → Option (List ℕ)) (faults : K → ℕ) w
   )
 
   -- all that a writer's thread did
-  pub has_written : (texts : Ends Text) (sink : K) (a b : Printer K) (wrote : Wrote K) → a ≡ record { texts = texts; sink = sink; has_failed = false } → Leads written faults a b → wrote.texts ≡ b.texts → wrote.sink ≡ b.sink
+  pub has_written : (texts : Ends Text) (sink : K) (a b : Printer K) (wrote : Wrote K) → a ≡ record { texts = texts; sink = sink; has_failed = false } → Leads written faults a b → wrote.texts ≡ closed b.texts → wrote.sink ≡ b.sink
       → (b.has_failed ≡ true → wrote.status ≡ 5) → (b.has_failed ≡ false → (wrote.status ≡ 0) ⊎ (wrote.status ≡ 6)) → HasWrittenTexts written faults texts sink wrote
   has_written texts sink a b wrote start led same_texts same_sink write other =
       let first : Printer K = record { texts = texts; sink = sink; has_failed = false } in

@@ -206,7 +206,7 @@ paired texts ts a b c ways lanes p = subst (λ l. ArePaired texts ts l) (sym lan
 
 -- the channel of the texts, and its shares
 pub pair_after : (texts : Ends Text) (a b c : Dispatcher) → IsPair a.refusals.outlet.sender texts → KeepsWays a b → c.refusals ≡ b.refusals → IsPair c.refusals.outlet.sender texts
-pair_after texts a b c pair ways same = ap (λ (r : Refusals). r.outlet.sender.table_id) same ∙ (ways.refusals.0 ∙ pair)
+pair_after texts a b c pair ways same = ap (λ (r : Refusals). r.outlet.sender.channel) same ∙ (ways.refusals.0 ∙ pair)
 
 pub shares_after : (n : ℕ) (a b c : Dispatcher) → shares_of a.refusals.outlet.sender + n ≡ all_shares → KeepsWays a b → c.refusals ≡ b.refusals → shares_of c.refusals.outlet.sender + n ≡ all_shares
 shares_after n a b c sum ways same = ap (λ (r : Refusals). shares_of r.outlet.sender + n) same ∙ ap (λ m. m + n) ways.refusals.1 ∙ sum

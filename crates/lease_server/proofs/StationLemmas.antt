@@ -3,7 +3,7 @@ use Rattle.std.proofs.Common.{arith, ◌≡◌, ℕ, List, [], ◌∷◌, ◌++�
 use Rattle.std.specs.Global.{Vec}
 use Rattle.std.proofs.lemmas.List.{append-nil}
 use Rattle.std.proofs.lemmas.List.Concat.{flat_map-append}
-use Rattle.mono_channel.specs.Ends.{Ends, sent_by, received_by}
+use Rattle.mono_channel.specs.Ends.{Ends, sent_by, closed, received_by}
 use Rattle.lease_core.specs.declared.sizes.Sizes.{Sizes}
 use Rattle.lease_core.specs.declared.requests.Request.{Request}
 use Rattle.lease_core.specs.declared.requests.Reply.{Reply}
@@ -15,7 +15,7 @@ use Rattle.lease_server.specs.declared.texts.Text.{Text}
 use Rattle.lease_server.specs.declared.batches.Came.{Came}
 use Rattle.lease_server.specs.declared.batches.Came.TheVariants as came
 use Rattle.lease_server.specs.declared.desks.Desk.{Desk}
-use Rattle.lease_server.specs.declared.outlets.Outlet.{Outlet}
+use Rattle.lease_server.specs.OutletViews.{Outlet}
 use Rattle.lease_server.specs.declared.stations.Stage.{Stage}
 use Rattle.lease_server.specs.declared.stations.Stage.TheVariants as stage
 use Rattle.lease_server.specs.declared.stations.Station.{Station}
@@ -142,7 +142,7 @@ fits_begins stage.Lost received events said answers fits = fits
 
 -- A core that did nothing fits its stage.
 first_fits : (requests : Ends (Vec Request)) (texts : Ends Text) (first : Station) → events_of first.desk.past ≡ [] → replies_of first.desk.past ≡ []
-    → first.requests ≡ requests → first.texts.sender ≡ texts → passed first.texts ≡ sent_by texts → first.stage ≡ stage.Open → received_by requests ≡ [] → sent_by texts ≡ [] → Fits first
+    → first.requests ≡ requests → first.texts.sender ≡ closed texts → passed first.texts ≡ sent_by texts → first.stage ≡ stage.Open → received_by requests ≡ [] → sent_by texts ≡ [] → Fits first
 first_fits requests texts first events replies from to none is_open none_received none_sent =
     let asked : requests_in (events_of first.desk.past) ≡ joined (received_by first.requests) = ap requests_in events ∙ sym (ap (λ e. joined (received_by e)) from ∙ ap joined none_received) in
     let silent : passed first.texts ≡ [] = none ∙ none_sent in
@@ -152,7 +152,7 @@ first_fits requests texts first events replies from to none is_open none_receive
 -- All that a core did since nothing had been done, if its thread has ended.
 pub has_ended : (number : ℕ) (sizes : Sizes) (requests : Ends (Vec Request)) (texts : Ends Text) (desk : Desk) (first last : Station) (end : CoreEnd)
     → Refines desk.core (new_core sizes) → desk.number ≡ number → events_of desk.past ≡ [] → replies_of desk.past ≡ []
-    → first.desk ≡ desk → first.requests ≡ requests → first.texts.sender ≡ texts → passed first.texts ≡ sent_by texts → first.stage ≡ stage.Open
+    → first.desk ≡ desk → first.requests ≡ requests → first.texts.sender ≡ closed texts → passed first.texts ≡ sent_by texts → first.stage ≡ stage.Open
     → Leads first last → (IsNew sizes first → HasRun first.desk.number (new_core sizes) last.desk) → EndsStation last end → HasEnded number sizes requests texts end
 has_ended number sizes requests texts desk first last end refines numbered no_event no_reply at_desk from to none is_open leads run ends =
     let events : events_of first.desk.past ≡ [] = ap (λ (d : Desk). events_of d.past) at_desk ∙ no_event in
@@ -197,7 +197,7 @@ has_ended number sizes requests texts desk first last end refines numbered no_ev
     }
 
 -- Out of memory before there was a core.
-pub unstarted : (number : ℕ) (sizes : Sizes) (requests : Ends (Vec Request)) (texts : Ends Text) (end : CoreEnd) → end.status ≡ 6 → end.requests ≡ requests → end.texts ≡ texts → HasEnded number sizes requests texts end
+pub unstarted : (number : ℕ) (sizes : Sizes) (requests : Ends (Vec Request)) (texts : Ends Text) (end : CoreEnd) → end.status ≡ 6 → end.requests ≡ closed requests → end.texts ≡ closed texts → HasEnded number sizes requests texts end
 unstarted number sizes requests texts end failed from to = record {
   received = subst (λ e. Keeps requests e) (sym from) (refl, refl, refl);
   sent = subst (λ e. Stays texts e) (sym to) (refl, refl);

@@ -5,7 +5,7 @@ use Rattle.std.proofs.lemmas.List.{append-nil, length-append}
 use Rattle.std.proofs.lemmas.List.Concat.{flat_map-append}
 use Rattle.mono_channel.specs.Beginnings.{Begun}
 use Rattle.mono_channel.specs.Delivery.{Interleaves, all_shares, shares_kept, shares_given}
-use Rattle.mono_channel.specs.Ends.{Ends, sent_by, received_by, settled_by, shares_of, IsPair}
+use Rattle.mono_channel.specs.Ends.{Ends, sent_by, closed, received_by, settled_by, shares_of, IsPair}
 use Rattle.mono_channel.proofs.Interleaving.{alone, interleaved}
 use Rattle.lease_core.specs.declared.requests.Request.{Request}
 use Rattle.lease_core.specs.declared.sizes.Sizes.{Sizes}
@@ -188,7 +188,7 @@ pub adds : (number : ℕ) (sizes : Sizes) (before after : List CoreThread) (old 
     → IsPair sender requests → shares_of sender ≡ all_shares → IsFresh requests
     → IsPair texts mid.refusals.outlet.sender → sent_by texts ≡ [] → shares_of further.refusals.outlet.sender ≡ shares_kept (shares_of mid.refusals.outlet.sender)
     → shares_of texts ≡ shares_given (shares_of mid.refusals.outlet.sender) → 1 < shares_of old.refusals.outlet.sender
-    → mid.refusals ≡ old.refusals → new.refusals ≡ further.refusals → lane.outlet.sender ≡ sender → after ≡ before ++ t ∷ [] → new.lanes.items ≡ old.lanes.items ++ lane ∷ []
+    → mid.refusals ≡ old.refusals → new.refusals ≡ further.refusals → lane.outlet.sender ≡ closed sender → after ≡ before ++ t ∷ [] → new.lanes.items ≡ old.lanes.items ++ lane ∷ []
     → Adds number sizes before old after new
 adds number sizes before after old mid further new t sender requests texts lane promised pair whole fresh way none kept gave some was is own threads lanes =
     let n : shares_of mid.refusals.outlet.sender ≡ shares_of old.refusals.outlet.sender = ap (λ (r : Refusals). shares_of r.outlet.sender) was in

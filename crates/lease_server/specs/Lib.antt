@@ -9,6 +9,7 @@ pub mod Blocks
 pub mod Dispatch
 pub mod Intakes
 pub mod Lanes
+pub mod OutletViews
 pub mod Outlets
 pub mod Routing
 pub mod Splits

@@ -1,7 +1,7 @@
 -- What an outlet was given: the messages that it sent, and the one that it did not send yet.
 use Rattle.std.specs.Prelude.{◌≡◌, List, [], ◌∷◌, ◌++◌, Option, Some, None}
 use Rattle.mono_channel.specs.Ends.{Ends, sent_by, settled_by, shares_of, IsPair}
-use Rattle.lease_server.specs.declared.outlets.Outlet.{Outlet}
+use Rattle.lease_server.specs.OutletViews.{Outlet}
 
 -- The message, if any.
 abbrev pub kept : {M : Type 0} → Option M → List M

@@ -1,7 +1,7 @@
 -- What a core does at its station.
 use Rattle.std.specs.Prelude.{◌≡◌, ◌⊎◌, ℕ, List, ◌∷◌, [], ◌++◌, None, refl}
 use Rattle.std.proofs.Common.{◌∙◌}
-use Rattle.mono_channel.specs.Ends.{received_by}
+use Rattle.mono_channel.specs.Ends.{closed, received_by}
 use Rattle.lease_core.specs.declared.requests.Request.{Request}
 use Rattle.lease_core.specs.declared.sizes.Sizes.{Sizes}
 use Rattle.lease_core.specs.Cores.{new_core}
@@ -69,7 +69,7 @@ IsDone s = (s.stage ≡ stage.Ended) × (s.texts.message ≡ None)
 
 -- The ends are those of the station. If the status is 0, the core was done.
 abbrev pub EndsStation : Station → CoreEnd → Type 0
-EndsStation s end = (end.requests ≡ s.requests) × (end.texts ≡ s.texts.sender) × (end.status ≡ 0 → IsDone s)
+EndsStation s end = (end.requests ≡ closed s.requests) × (end.texts ≡ s.texts.sender) × (end.status ≡ 0 → IsDone s)
 
 -- The core's clock showed n nanoseconds, and then the core performed what came.
 abbrev pub Works : ℕ → Station → Station → Type 0

@@ -4,6 +4,7 @@ ghost use Rattle.lease_core.specs.Cores.{new_core};
 ghost use Rattle.mono_rt.specs.Views.{shared_of};
 ghost use Rattle.lease_server.specs.CoreRuns.{CalledOnce};
 ghost use Rattle.lease_server.specs.Desks.{HasRun};
+ghost use Rattle.mono_channel.specs.Ends.{closed};
 ghost use Rattle.lease_server.specs.Stations.{Leads, IsNew, IsDone, EndsStation};
 ghost use Rattle.lease_server.specs.CoreEnds.{HasEnded};
 
@@ -94,7 +95,7 @@ fn end_core<R: Host>(
     requests: Receiver<Vec<Request>, UnparkHandle>,
     texts: Sender<Text, UnparkHandle>,
 ) -> CoreEnd
-    ensures { (result.status ≡ status) × (result.requests ≡ requests) × (result.texts ≡ texts) }
+    ensures { (result.status ≡ status) × (result.requests ≡ closed requests) × (result.texts ≡ closed texts) }
 {
     let mut requests = requests;
     let mut texts = texts;

@@ -1,7 +1,7 @@
 // The numbers of the lines, and the ways of their requests and refusals.
 ghost use Rattle.std.specs.Prelude.{◌≡◌, ◌+◌, ◌++◌, ◌∷◌, [], true, List, map, Option, None, Some, IfErr, IfOk, OnOk, OnErr};
 ghost use Rattle.mono_channel.specs.Delivery.{shares_kept, shares_given};
-ghost use Rattle.mono_channel.specs.Ends.{sent_by, shares_of, IsPair};
+ghost use Rattle.mono_channel.specs.Ends.{sent_by, shares_of, closed, IsPair};
 ghost use Rattle.lease_core.specs.declared.requests.Request.{Request};
 ghost use Rattle.lease_server.specs.declared.lanes.Lane.{Lane};
 ghost use Rattle.lease_server.specs.Lanes.{given, sent_over};
@@ -82,7 +82,7 @@ impl Dispatcher {
     pub fn new(alloc: Global, texts: Sender<Text, UnparkHandle>) -> Dispatcher
         ensures holds { sent_by texts ≡ [] → Holds [] result }
         ensures lanes { result.lanes.items ≡ [] }
-        ensures texts { result.refusals.outlet.sender ≡ texts }
+        ensures texts { result.refusals.outlet.sender ≡ closed texts }
     {
         Dispatcher {
             lanes: Vec::new(alloc),
@@ -120,7 +120,7 @@ impl Dispatcher {
     pub fn add(&mut self, alloc: Global, sender: Sender<Vec<Request>, UnparkHandle>)
         requires { HasRoom self.old }
         ensures holds { sent_by sender ≡ [] → Holds [] self.old → Holds [] self.new }
-        ensures lane { (lane : Lane) × (lane.outlet.sender ≡ sender) × (self.new.lanes.items ≡ self.old.lanes.items ++ lane ∷ []) }
+        ensures lane { (lane : Lane) × (lane.outlet.sender ≡ closed sender) × (self.new.lanes.items ≡ self.old.lanes.items ++ lane ∷ []) }
         ensures refusals { self.new.refusals ≡ self.old.refusals }
     {
         self.lanes.push_reserved(Lane::new(alloc, sender));

@@ -1,6 +1,6 @@
 // The way of requests to a core.
 ghost use Rattle.std.specs.Prelude.{◌≡◌, ◌++◌, ◌∷◌, [], true, IfOk, OnOk, OnErr, None};
-ghost use Rattle.mono_channel.specs.Ends.{sent_by};
+ghost use Rattle.mono_channel.specs.Ends.{sent_by, closed};
 ghost use Rattle.lease_server.specs.Lanes.{given, sent_over};
 ghost use Rattle.lease_server.specs.Outlets.{Stays};
 
@@ -21,7 +21,7 @@ pub struct Lane {
 impl Lane {
     /// Returns a lane over this channel, with no request.
     pub fn new(alloc: Global, sender: Sender<Vec<Request>, UnparkHandle>) -> Lane
-        ensures sender { result.outlet.sender ≡ sender }
+        ensures sender { result.outlet.sender ≡ closed sender }
         ensures given { sent_by sender ≡ [] → given result ≡ [] }
     {
         Lane {
@@ -46,7 +46,7 @@ impl Lane {
 
     /// Returns the sender.
     pub fn into_sender(self) -> Sender<Vec<Request>, UnparkHandle>
-        ensures { result ≡ self.outlet.sender }
+        ensures { closed result ≡ self.outlet.sender }
     {
         let Lane {
             requests: _,

@@ -1,19 +1,29 @@
 // The end of a channel, with the message that was not sent yet.
 ghost use Rattle.std.specs.Prelude.{◌≡◌, ◌++◌, ◌∷◌, [], true, IfErr, IfOk, None};
 ghost use Rattle.mono_channel.specs.Delivery.{shares_kept, shares_given};
-ghost use Rattle.mono_channel.specs.Ends.{sent_by, shares_of, IsPair};
+ghost use Rattle.mono_channel.specs.Ends.{sent_by, shares_of, closed, IsPair};
 ghost use Rattle.mono_channel.specs.Errors.{unsent};
 ghost use Rattle.lease_server.specs.Outlets.{passed, KeepsAll, Stays};
 
 use mono_channel::{SendError, Sender};
 use mono_rt::{Host, Poll, RemoteWaker, UnparkHandle};
 use std::alloc::AllocError;
+use std::marker::Model;
 
 /// The end of a channel that sends, and the message that was not sent yet, if any.
 #[derive(Drop)]
 pub struct Outlet<M: Drop> {
     sender: Sender<M, UnparkHandle>,
     message: Option<M>,
+}
+
+impl<M: Drop> Model for Outlet<M> {
+    ghost use Rattle.mono_channel.specs.Ends.{closed};
+    ghost use Rattle.lease_server.specs.OutletViews.{Outlet};
+
+    ghost Value = { Outlet M };
+
+    ghost view = { λ o. record { sender = closed o.sender; message = o.message } };
 }
 
 // Returns the message that was not sent.
@@ -29,7 +39,7 @@ fn message_of<M>(error: SendError<M>) -> M
 impl<M: Drop> Outlet<M> {
     /// Returns an outlet of this sender, with no message.
     pub fn new(sender: Sender<M, UnparkHandle>) -> Outlet<M>
-        ensures sender { result.sender ≡ sender }
+        ensures sender { result.sender ≡ closed sender }
         ensures passed { passed result ≡ sent_by sender }
     {
         Outlet {
@@ -65,7 +75,7 @@ impl<M: Drop> Outlet<M> {
 
     /// Returns the sender. A message that was not sent is dropped.
     pub fn into_sender(self) -> Sender<M, UnparkHandle>
-        ensures { result ≡ self.sender }
+        ensures { closed result ≡ self.sender }
     {
         let Outlet { sender, message: _ } = self;
         sender

@@ -1,7 +1,7 @@
 // The refusals of the lines that are no request.
 ghost use Rattle.std.specs.Prelude.{◌≡◌, ◌++◌, ◌∷◌, [], true, IfErr, IfOk, OnOk, OnErr, None};
 ghost use Rattle.mono_channel.specs.Delivery.{shares_kept, shares_given};
-ghost use Rattle.mono_channel.specs.Ends.{sent_by, shares_of, IsPair};
+ghost use Rattle.mono_channel.specs.Ends.{sent_by, closed, shares_of, IsPair};
 ghost use Rattle.lease_server.specs.Lanes.{answers_given, answers_sent};
 ghost use Rattle.lease_server.specs.Outlets.{Stays};
 ghost use Rattle.lease_server.specs.Answers.{refusals_of};
@@ -33,7 +33,7 @@ fn put_refusals(out: &mut Text, numbers: &[u64]) -> Result<(), AllocError>
 impl Refusals {
     /// Returns refusals over this channel, of no line.
     pub fn new(alloc: Global, sender: Sender<Text, UnparkHandle>) -> Refusals
-        ensures sender { result.outlet.sender ≡ sender }
+        ensures sender { result.outlet.sender ≡ closed sender }
         ensures given { sent_by sender ≡ [] → answers_given result ≡ [] }
     {
         Refusals {
@@ -70,7 +70,7 @@ impl Refusals {
 
     /// Returns the sender.
     pub fn into_sender(self) -> Sender<Text, UnparkHandle>
-        ensures { result ≡ self.outlet.sender }
+        ensures { closed result ≡ self.outlet.sender }
     {
         let Refusals { numbers: _, outlet } = self;
         outlet.into_sender()

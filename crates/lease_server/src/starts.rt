@@ -1,7 +1,7 @@
 // The start of the cores.
 ghost use Rattle.std.specs.Prelude.{◌≡◌, ◌⊎◌, ◌+◌, ◌<◌, ◌≤◌, [], length};
 ghost use Rattle.mono_channel.specs.Delivery.{all_shares};
-ghost use Rattle.mono_channel.specs.Ends.{shares_of, IsPair};
+ghost use Rattle.mono_channel.specs.Ends.{shares_of, closed, IsPair};
 ghost use Rattle.lease_server.specs.Dispatch.{Holds};
 ghost use Rattle.lease_server.specs.Threads.{ArePaired, AreNumbered, Promises, Starts};
 
@@ -33,7 +33,7 @@ fn start_thread<R: Host + Copy + Send + 'static>(
     texts: Sender<Text, UnparkHandle>,
 ) -> CoreThread
     ensures promised { Promises number settings.now.sizes requests texts result }
-    ensures sender { sender.new ≡ sender.old }
+    ensures sender { closed sender.new ≡ closed sender.old }
 {
     let own = *settings;
     let promise = Serves {

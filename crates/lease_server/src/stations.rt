@@ -1,7 +1,7 @@
 // The shared value of a core's tasks: the desk, the ends of its channels, and the text that was not sent yet.
 ghost use Rattle.std.specs.Prelude.{◌≡◌, ◌++◌, true, false, length, None, IfOk};
 ghost use Rattle.mono_time.specs.Instants.{nanos_of};
-ghost use Rattle.mono_channel.specs.Ends.{sent_by, received_by};
+ghost use Rattle.mono_channel.specs.Ends.{closed, sent_by, received_by};
 ghost use Rattle.lease_core.specs.Cores.{CoreState};
 ghost use Rattle.lease_core.specs.Refinement.{Refines};
 ghost use Rattle.lease_core.specs.Waiting.{waits_of};
@@ -77,7 +77,7 @@ impl Station {
     ) -> Station
         ensures desk { result.desk ≡ desk }
         ensures requests { result.requests ≡ requests }
-        ensures texts { (result.texts.sender ≡ texts) × (passed result.texts ≡ sent_by texts) }
+        ensures texts { (result.texts.sender ≡ closed texts) × (passed result.texts ≡ sent_by texts) }
         ensures stage { result.stage ≡ Open }
     {
         Station {

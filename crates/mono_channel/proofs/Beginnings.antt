@@ -1,7 +1,6 @@
 -- A beginning of an interleaving interleaves a beginning of each part.
-use Rattle.std.proofs.Common.{◌≡◌, ◌≢◌, ℕ, List, [], ◌∷◌, ◌++◌, map, sym, refl, ap, ◌∙◌, subst}
-use Rattle.std.specs.Prelude.{⊤}
-use Rattle.mono_channel.specs.Delivery.{of, IsNew, HasAll, AreOf, Interleaves}
+use Rattle.std.proofs.Common.{◌≡◌, ℕ, List, [], ◌∷◌, ◌++◌, map, sym, refl, ap, ◌∙◌, subst}
+use Rattle.mono_channel.specs.Delivery.{of, IsNew, HasAll}
 use Rattle.mono_channel.specs.Beginnings.{AreBeginnings, BeginningsInterleave}
 use Rattle.mono_channel.proofs.DeliveryLemmas.{of_append}
 use Rattle.mono_channel.proofs.Interleaving.{no_head, head_is, tail_is}

@@ -1,6 +1,6 @@
 -- Each call of an end keeps the rule of the channel.
 use Rattle.std.proofs.Common.{◌≡◌, ◌≢◌, ◌==◌, ◌<◌, ◌≤◌, ◌+◌, ℕ, zero, suc, true, false, true≢false, Bool, List, [], ◌∷◌, ◌++◌, map, length, set, sym, refl, ap, ◌∙◌, subst, ⊎_elim, inl, inr, append_assoc, arith}
-use Rattle.std.specs.Prelude.{⊤, if◌then◌else◌, ◌⊎◌}
+use Rattle.std.specs.Prelude.{if◌then◌else◌, ◌⊎◌}
 use Rattle.std.proofs.lemmas.Bool.Decides.{nat_tests}
 use Rattle.std.proofs.lemmas.List.{map-append, length-set, length-append, append-nil}
 use mathlib.Core.Option.{some, some-ne-none, some-injective}
@@ -11,7 +11,7 @@ use Rattle.crossbeam_queue.specs.Fifo.{Pushes, Pops, Forks, Merges, Learns, Held
 use Rattle.crossbeam_queue.proofs.Lists.{at_set, set_else}
 use Rattle.mono_channel.specs.declared.rule.Hand.{Hand}
 use Rattle.mono_channel.specs.Queues.{IsQueued, HeldBelow}
-use Rattle.mono_channel.specs.Delivery.{of, IsNew, HasAll, AreBelow, AreOf, Arrived, Fit, FitsSender, FitsReceiver, FitsIdle, Delivers, Share, total, all_shares, shares_kept, shares_given, hand, sender, spent}
+use Rattle.mono_channel.specs.Delivery.{of, IsNew, HasAll, AreBelow, AreOf, Arrived, Fit, Delivers, total, all_shares, shares_kept, shares_given, hand, sender, spent}
 
 pub same_is : (n : ℕ) → (n == n) ≡ true
 same_is n = grind (arith, nat_tests)

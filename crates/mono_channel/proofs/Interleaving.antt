@@ -1,9 +1,9 @@
 -- What an interleaving says.
 use Rattle.std.proofs.Common.{◌≡◌, ◌≢◌, ◌==◌, ℕ, true, false, Bool, List, [], ◌∷◌, ◌++◌, map, length, sym, refl, ap, ◌∙◌, arith}
-use Rattle.std.specs.Prelude.{⊤, if◌then◌else◌}
+use Rattle.std.specs.Prelude.{if◌then◌else◌}
 use Rattle.std.specs.List.{flat_map}
 use Rattle.std.proofs.lemmas.List.{map-append}
-use Rattle.mono_channel.specs.Delivery.{of, IsNew, HasAll, AreOf, Arrived, Interleaves, all_shares}
+use Rattle.mono_channel.specs.Delivery.{of, IsNew, HasAll, Arrived, Interleaves, all_shares}
 use Rattle.mono_channel.proofs.DeliveryLemmas.{of_append, same_is, never}
 
 abbrev head_or : {A : Type 0} → A → List A → A

@@ -1,12 +1,12 @@
 -- An interleaving weighs what its parts do.
-use Rattle.std.proofs.Common.{◌≡◌, ◌≢◌, ◌==◌, ◌+◌, ℕ, true, false, Bool, List, [], ◌∷◌, ◌++◌, map, sym, refl, ap, ◌∙◌, arith}
-use Rattle.std.specs.Prelude.{⊤, if◌then◌else◌}
+use Rattle.std.proofs.Common.{◌≡◌, ◌≢◌, ◌==◌, ◌+◌, ℕ, true, false, Bool, List, [], ◌∷◌, map, sym, refl, ap, ◌∙◌, arith}
+use Rattle.std.specs.Prelude.{if◌then◌else◌}
 use Rattle.std.proofs.lemmas.Bool.Decides.{nat_tests}
 use mathlib.Core.Logic.{dite}
 use native.Mathlib.Decide.{ℕ_discrete}
-use Rattle.mono_channel.specs.Delivery.{of, IsNew, HasAll, AreOf, Interleaves}
+use Rattle.mono_channel.specs.Delivery.{of, IsNew, HasAll, AreOf}
 use Rattle.mono_channel.specs.Weights.{weigh, InterleavingWeighs}
-use Rattle.mono_channel.proofs.DeliveryLemmas.{same_is, other_is, never}
+use Rattle.mono_channel.proofs.DeliveryLemmas.{same_is, other_is}
 use Rattle.mono_channel.proofs.Interleaving.{no_head}
 
 is_same : (m n : ℕ) → (m == n) ≡ true → m ≡ n

@@ -1,5 +1,5 @@
 -- The message that comes back.
-use Rattle.std.specs.Prelude.{⊤, Bool, true, false, Result, Ok, Err}
+use Rattle.std.specs.Prelude.{⊤, Bool, true, false, not, Result, Ok, Err}
 use Rattle.mono_channel.specs.declared.errors.TryRecvError.{TryRecvError}
 use Rattle.mono_channel.specs.declared.errors.TryRecvError.TheVariants.{Empty, Disconnected}
 use Rattle.mono_channel.specs.declared.errors.TrySendError.{TrySendError}
@@ -22,6 +22,16 @@ module _ {T : Type 0} where
   abbrev pub is_shut : TrySendError T → Bool
   is_shut (Full x) = false
   is_shut (Closed x) = true
+
+  -- whether a put was refused since the channel or the sender was closed
+  abbrev pub finds_closed : {A : Type 0} → Result A (TrySendError T) → Bool
+  finds_closed (Ok a) = false
+  finds_closed (Err e) = is_shut e
+
+  -- whether a put was refused since each place was taken
+  abbrev pub finds_full : {A : Type 0} → Result A (TrySendError T) → Bool
+  finds_full (Ok a) = false
+  finds_full (Err e) = not (is_shut e)
 
   -- the message that was not sent
   abbrev pub unsent : SendError T → T

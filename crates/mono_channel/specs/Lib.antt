@@ -2,11 +2,13 @@ pub mod Beginnings
 pub mod Delivery
 pub mod Ends
 pub mod Errors
-pub mod Gates
+pub mod Kept
+pub mod Lines
 pub mod Messages
 pub mod Owned
 pub mod Polls
 pub mod Queues
-pub mod Seats
 pub mod Spent
+pub mod Stakes
+pub mod Standings
 pub mod Weights

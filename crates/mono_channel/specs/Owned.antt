@@ -4,7 +4,7 @@ use Rattle.std.specs.declared.alloc.AllocError.{AllocError}
 use Rattle.mono_model.specs.declared.poll.Poll.TheVariants.{Ready}
 use Rattle.mono_channel.specs.declared.errors.SendError.{SendError}
 use Rattle.mono_channel.specs.Ends.{Ends}
-use Rattle.mono_channel.specs.Polls.{PollsToReceive, PollsToSend}
+use Rattle.mono_channel.specs.Polls.{PollsToReceive, PollsToSend, PolledEnd}
 
 module _ {T : Type 0} where
   -- the message was sent or comes back
@@ -14,5 +14,5 @@ module _ {T : Type 0} where
 
   -- a poll of the receiver answered this
   abbrev pub IntoRecvGives : Option (Ends T) → Ends T → Result (Option T) AllocError → Type 0
-  IntoRecvGives (Some a) b x = PollsToReceive a (Ready x) b
+  IntoRecvGives (Some a) b x = PollsToReceive a (Ready x) b × PolledEnd (Ready x) b
   IntoRecvGives None b x = ⊥

@@ -1,131 +1,88 @@
-// What the ends of a channel share under its lock: who waits, and whether the channel is closed.
-ghost use Rattle.std.specs.Prelude.{◌≡◌, ◌≢◌, ◌+◌, ◌-◌, ◌<◌, ◌≤◌, ◌^◌, true, false, [], ◌++◌, ◌∷◌, Some, None, Err, IfOk, IfErr, OnOk, OnSome, MatchResult, MatchOption};
+// What the ends of a channel share under its lock: who waits, and whether the receiver closed the channel.
+ghost use Rattle.std.specs.Prelude.{◌≡◌, true, false, [], ◌++◌, ◌∷◌, Some, None, Err, IfOk, IfErr, OnOk, MatchResult, MatchOption};
 ghost use Rattle.crossbeam_queue.specs.Passes.{view, IsPassOf, IsSamePass, ruled_capacity};
 ghost use Rattle.crossbeam_queue.specs.Fifo.{Held};
 ghost use Rattle.mono_channel.specs.Queues.{IsQueued, HeldBelow};
 ghost use Rattle.mono_channel.specs.Delivery.{Arrived, hand, sender};
 ghost use Rattle.mono_channel.specs.Errors.{message_of, is_shut, is_disconnected, OnFull};
-ghost use Rattle.mono_channel.specs.Gates.{is_over};
-ghost use Rattle.mono_channel.specs.Seats.{Seats};
+ghost use Rattle.mono_channel.specs.Standings.{standing};
+ghost use Rattle.mono_channel.specs.Stakes.{IsStakeOf};
+ghost use Rattle.mono_channel.specs.Lines.{Calls, spent};
 ghost use Rattle.mono_channel.specs.declared.errors.TryRecvError.TheVariants.{Empty};
 
 use crate::errors::{TryRecvError, TrySendError};
+use crate::lines::Line;
 use crate::rule::{End, Places, Queue, Received, Sent};
+use crate::stakes::{SenderCount, Stake};
 use crate::waiters::Waiter;
 use mono_inbox::Unpark;
 use mono_model::Host;
-use std::alloc::{AllocError, Global};
+use std::alloc::Global;
+use std::collections::BTreeMap;
 use std::marker::Brand;
 use std::mem;
 
-/// Who waits at a channel, and whether it is closed.
+/// Who waits at a channel, and whether its receiver closed it.
 #[derive(Drop)]
 pub(crate) struct Gate<U: Unpark> {
     alloc: Global,
     // whether the receiver closed the channel
-    is_stopped: bool,
-    // how many senders have not been closed
-    senders: u64,
+    pub(crate) is_stopped: bool,
     // who waits to receive
     receiver: Option<Waiter<U>>,
-    // those who wait to send, in the order in which they began to
-    waiting: Vec<Waiter<U>>,
-    // how often those who wait to send were let go
-    round: u64,
+    // those who wait to send
+    pub(crate) line: Line<U>,
 }
 
 impl<U: Unpark> Gate<U> {
-    /// Returns the gate of a new channel, which has one sender.
+    /// Returns the gate of a new channel.
     pub(crate) fn new(alloc: Global) -> Gate<U>
-        ensures open { (result.is_stopped ≡ false) × (result.senders ≡ 1) }
-        ensures none { (result.receiver ≡ None) × (result.waiting.items ≡ []) }
+        ensures open { result.is_stopped ≡ false }
+        ensures none { (result.receiver ≡ None) × (result.line.waiters.entries ≡ []) }
     {
         Gate {
             alloc,
             is_stopped: false,
-            senders: 1,
             receiver: None,
-            waiting: Vec::new(alloc),
-            round: 0,
+            line: Line::new(alloc),
         }
     }
 
-    /// Counts a further sender.
-    pub(crate) fn join(&mut self)
-        ensures counted { self.old.senders < 2 ^ 63 → self.new.senders ≡ self.old.senders + 1 }
-        ensures same { (self.new.is_stopped ≡ self.old.is_stopped) × (self.new.receiver ≡ self.old.receiver) × (self.new.waiting ≡ self.old.waiting) }
-    {
-        self.senders = self.senders.saturating_add(1);
-    }
-
-    /// Counts a sender out, and closes the channel if it was the last: then returns who waits to receive, who is to be woken.
-    pub(crate) fn leave(&mut self) -> Option<Waiter<U>>
-        ensures last { self.old.senders ≤ 1 → result ≡ self.old.receiver }
-        ensures others { 1 < self.old.senders → (self.new.receiver ≡ self.old.receiver) × (result ≡ None) }
-        ensures counted { self.new.senders ≡ self.old.senders - 1 }
-        ensures same { (self.new.is_stopped ≡ self.old.is_stopped) × (self.new.waiting ≡ self.old.waiting) }
-    {
-        self.senders = self.senders.saturating_sub(1);
-        if self.senders > 0 {
-            return None;
-        }
-        mem::replace(&mut self.receiver, None)
-    }
-
-    /// Closes the channel. Returns those who wait to send.
-    pub(crate) fn close(&mut self) -> Vec<Waiter<U>>
+    /// Closes the channel. Returns those who wait to send, by their seats.
+    pub(crate) fn close(&mut self) -> BTreeMap<u64, Waiter<U>>
         ensures closed { self.new.is_stopped ≡ true }
-        ensures woken { result.items ≡ self.old.waiting.items }
-        ensures same { (self.new.senders ≡ self.old.senders) × (self.new.receiver ≡ self.old.receiver) }
+        ensures woken { result.entries ≡ self.old.line.waiters.entries }
+        ensures same { self.new.receiver ≡ self.old.receiver }
     {
         self.is_stopped = true;
-        self.let_go()
-    }
-
-    /// Returns whether the channel is closed: by its receiver, or since each sender is.
-    pub(crate) fn is_closed(&self) -> bool
-        ensures { result ≡ is_over self.now }
-    {
-        self.is_stopped || self.senders == 0
-    }
-
-    /// Empties the list of those who wait to send. Returns them in order; they are to be woken.
-    fn let_go(&mut self) -> Vec<Waiter<U>>
-        ensures woken { result.items ≡ self.old.waiting.items }
-        ensures none { self.new.waiting.items ≡ [] }
-        ensures same { (self.new.is_stopped ≡ self.old.is_stopped) × (self.new.senders ≡ self.old.senders) × (self.new.receiver ≡ self.old.receiver) }
-        ensures round { self.new.round ≢ self.old.round }
-    {
-        self.round = self.round.wrapping_add(1);
-        mem::replace(&mut self.waiting, Vec::new(self.alloc))
-    }
-
-    /// Keeps one who waits to send. It takes the place of the sender's earlier one, at `seat`, if that was not let go.
-    /// Returns the seat. If the allocation fails the gate stays as it was.
-    pub(crate) fn wait_to_send(
-        &mut self,
-        waiter: Waiter<U>,
-        seat: Option<(u64, usize)>,
-    ) -> Result<(u64, usize), AllocError>
-        ensures kept { IfOk result (λ s. Seats self.old.waiting.items seat self.old.round waiter s self.new.waiting.items) }
-        ensures refused { IfErr result (λ e. self.new.waiting.items ≡ self.old.waiting.items) }
-        ensures same { (self.new.receiver ≡ self.old.receiver) × (self.new.is_stopped ≡ self.old.is_stopped) × (self.new.senders ≡ self.old.senders) × (self.new.round ≡ self.old.round) }
-    {
-        if let Some((round, at)) = seat {
-            if round == self.round && at < self.waiting.len() {
-                self.waiting[at] = waiter;
-                return Ok((round, at));
-            }
-        }
-        let at = self.waiting.len();
-        self.waiting.push(waiter)?;
-        Ok((self.round, at))
+        self.line.empty(self.alloc)
     }
 }
 
-/// Queues a message, and returns who waits to receive, who is to be woken now. The waiter leaves the gate only if the
-/// message is queued.
-pub(crate) fn put<T: Drop, U: Unpark, R: Host>(
+/// Counts an open sender out. If it was the last, returns who waits to receive, who is to be woken.
+pub(crate) fn leave<U: Unpark>(
+    gate: &mut Gate<U>,
+    senders: &SenderCount,
+    stake: &mut Stake,
+) -> Option<Waiter<U>>
+    requires of { IsStakeOf senders.now stake.old }
+    requires open { stake.old.me.0.senders ≡ 1 }
+    ensures of { IsStakeOf senders.now stake.new }
+    ensures counted { stake.new.me.0 ≡ standing 0 stake.new.me.0.over }
+    ensures last { stake.new.me.0.over ≡ true → result ≡ gate.old.receiver }
+    ensures others { stake.new.me.0.over ≡ false → (gate.new ≡ gate.old) × (result ≡ None) }
+    ensures same { (gate.new.is_stopped ≡ gate.old.is_stopped) × (gate.new.line ≡ gate.old.line) }
+{
+    if senders.leave(stake) {
+        mem::replace(&mut gate.receiver, None)
+    } else {
+        None
+    }
+}
+
+// Queues a message, and returns who waits to receive, who is to be woken now. The waiter leaves the gate only if the
+// message is queued.
+fn put<T: Drop, U: Unpark, R: Host>(
     rt: &R,
     gate: &mut Gate<U>,
     queue: &Queue<T>,
@@ -136,18 +93,42 @@ pub(crate) fn put<T: Drop, U: Unpark, R: Host>(
     requires sends { (view end.old).sends ≡ true }
     ensures queue { IsSamePass end.old end.new }
     ensures put { MatchResult result (λ first. (view end.new ≡ sender (view end.old).shares ((view end.old).sent ++ message ∷ [])) × (first ≡ gate.old.receiver) × (gate.new.receiver ≡ None)) (λ e. (message_of e ≡ message) × (view end.new ≡ view end.old) × (gate.new ≡ gate.old)) }
-    ensures closed { MatchResult result (λ first. is_over gate.old ≡ false) (λ e. is_shut e ≡ is_over gate.old) }
+    ensures closed { MatchResult result (λ first. gate.old.is_stopped ≡ false) (λ e. is_shut e ≡ gate.old.is_stopped) }
     ensures full { OnFull result (Held (ruled_capacity queue.now) (IsQueued (view end.old).sent)) }
     ensures room { OnOk result (HeldBelow (ruled_capacity queue.now) (IsQueued (view end.old).sent)) }
-    ensures same { (is_over gate.new ≡ is_over gate.old) × (gate.new.waiting ≡ gate.old.waiting) }
+    ensures same { (gate.new.is_stopped ≡ gate.old.is_stopped) × (gate.new.line ≡ gate.old.line) }
 {
-    if gate.is_closed() {
+    if gate.is_stopped {
         return Err(TrySendError::Closed(message));
     }
     match push::<Brand, T, R>(rt, queue, end, message) {
         Ok(()) => Ok(mem::replace(&mut gate.receiver, None)),
         Err(message) => Err(TrySendError::Full(message)),
     }
+}
+
+/// Queues a message as `put` does, for a sender with this seat. If the message is queued, the sender waits no more, and
+/// leaves the line.
+pub(crate) fn send<T: Drop, U: Unpark, R: Host>(
+    rt: &R,
+    gate: &mut Gate<U>,
+    queue: &Queue<T>,
+    end: &mut End<T>,
+    seat: &mut Option<u64>,
+    message: T,
+) -> Result<Option<Waiter<U>>, TrySendError<T>>
+    requires queue { IsPassOf queue.now end.old }
+    requires sends { (view end.old).sends ≡ true }
+    ensures queue { IsSamePass end.old end.new }
+    ensures put { MatchResult result (λ first. (view end.new ≡ sender (view end.old).shares ((view end.old).sent ++ message ∷ [])) × (first ≡ gate.old.receiver) × (gate.new.receiver ≡ None)) (λ e. (message_of e ≡ message) × (view end.new ≡ view end.old) × (gate.new ≡ gate.old)) }
+    ensures closed { MatchResult result (λ first. gate.old.is_stopped ≡ false) (λ e. is_shut e ≡ gate.old.is_stopped) }
+    ensures full { OnFull result (Held (ruled_capacity queue.now) (IsQueued (view end.old).sent)) }
+    ensures room { OnOk result (HeldBelow (ruled_capacity queue.now) (IsQueued (view end.old).sent)) }
+    ensures line { MatchResult result (λ first. (seat.new ≡ None) × (gate.new.line.waiters.entries ≡ spent seat.old gate.old.line.waiters.entries)) (λ e. seat.new ≡ seat.old) }
+{
+    let first = put(rt, gate, queue, end, message)?;
+    gate.line.spend(seat);
+    Ok(first)
 }
 
 // Queues a message if a place is left. Else it comes back.
@@ -166,7 +147,7 @@ fn push<P: Places, T: Drop, R: Host>(
     queue.push_as::<Sent<P>, R>(rt, end, message)
 }
 
-/// Takes the first message, and returns it with those who wait to send, who are to be woken now.
+/// Takes the first message, and calls the first who waits to send: returns both. The one called is to be woken now.
 ///
 /// If none is queued, all that settled senders sent has been received.
 pub(crate) fn take<T: Drop, U: Unpark, R: Host>(
@@ -174,60 +155,60 @@ pub(crate) fn take<T: Drop, U: Unpark, R: Host>(
     gate: &mut Gate<U>,
     queue: &Queue<T>,
     end: &mut End<T>,
-) -> Option<(T, Vec<Waiter<U>>)>
+) -> Option<(T, Option<Waiter<U>>)>
     requires queue { IsPassOf queue.now end.old }
     requires receives { (view end.old).receives ≡ true }
     ensures queue { IsSamePass end.old end.new }
-    ensures taken { MatchOption result ((view end.new ≡ view end.old) × (gate.new ≡ gate.old) × Arrived (view end.old).shares (view end.old).received (view end.old).settled) (λ r. (view end.new ≡ hand (view end.old).shares ((view end.old).received ++ r.0 ∷ []) (view end.old).settled) × (r.1.items ≡ gate.old.waiting.items)) }
-    ensures none { OnSome result (gate.new.waiting.items ≡ []) }
-    ensures same { (gate.new.is_stopped ≡ gate.old.is_stopped) × (gate.new.senders ≡ gate.old.senders) × (gate.new.receiver ≡ gate.old.receiver) }
+    ensures taken { MatchOption result ((view end.new ≡ view end.old) × (gate.new ≡ gate.old) × Arrived (view end.old).shares (view end.old).received (view end.old).settled) (λ r. (view end.new ≡ hand (view end.old).shares ((view end.old).received ++ r.0 ∷ []) (view end.old).settled) × Calls gate.old.line.waiters.entries r.1 gate.new.line.waiters.entries) }
+    ensures same { (gate.new.is_stopped ≡ gate.old.is_stopped) × (gate.new.receiver ≡ gate.old.receiver) }
 {
     match queue.pop_as::<Received, R>(rt, end) {
-        Some(message) => Some((message, gate.let_go())),
+        Some(message) => Some((message, gate.line.call())),
         None => None,
     }
 }
 
-/// Takes the first message as `take` does. If none is queued, refuses with `Disconnected` if and only if the channel is
-/// closed, and else with `Empty`. A refusal leaves the gate as it was.
+/// Takes the first message as `take` does. If none is queued, refuses with `Disconnected` if and only if the channel has
+/// ended, and else with `Empty`. A refusal leaves the gate as it was.
 pub(crate) fn take_or_refuse<T: Drop, U: Unpark, R: Host>(
     rt: &R,
     gate: &mut Gate<U>,
     queue: &Queue<T>,
     end: &mut End<T>,
-) -> Result<(T, Vec<Waiter<U>>), TryRecvError>
+    has_ended: bool,
+) -> Result<(T, Option<Waiter<U>>), TryRecvError>
     requires queue { IsPassOf queue.now end.old }
     requires receives { (view end.old).receives ≡ true }
     ensures queue { IsSamePass end.old end.new }
-    ensures taken { MatchResult result (λ r. (view end.new ≡ hand (view end.old).shares ((view end.old).received ++ r.0 ∷ []) (view end.old).settled) × (r.1.items ≡ gate.old.waiting.items)) (λ e. (view end.new ≡ view end.old) × (gate.new ≡ gate.old) × Arrived (view end.old).shares (view end.old).received (view end.old).settled) }
-    ensures refused { IfErr result (λ e. is_disconnected e ≡ is_over gate.old) }
-    ensures none { OnOk result (gate.new.waiting.items ≡ []) }
+    ensures taken { MatchResult result (λ r. (view end.new ≡ hand (view end.old).shares ((view end.old).received ++ r.0 ∷ []) (view end.old).settled) × Calls gate.old.line.waiters.entries r.1 gate.new.line.waiters.entries) (λ e. (view end.new ≡ view end.old) × (gate.new ≡ gate.old) × Arrived (view end.old).shares (view end.old).received (view end.old).settled) }
+    ensures refused { IfErr result (λ e. is_disconnected e ≡ has_ended) }
 {
     match take(rt, gate, queue, end) {
         Some(taken) => Ok(taken),
-        None if gate.is_closed() => Err(TryRecvError::Disconnected),
+        None if has_ended => Err(TryRecvError::Disconnected),
         None => Err(TryRecvError::Empty),
     }
 }
 
-/// Takes the first message, or refuses, as `take_or_refuse` does. If none is queued and the channel is open, keeps who
-/// waits to receive.
+/// Takes the first message, or refuses, as `take_or_refuse` does. If none is queued and the channel has not ended, keeps
+/// who waits to receive.
 pub(crate) fn take_or_wait<T: Drop, U: Unpark, R: Host>(
     rt: &R,
     gate: &mut Gate<U>,
     queue: &Queue<T>,
     end: &mut End<T>,
+    has_ended: bool,
     waiter: Waiter<U>,
-) -> Result<(T, Vec<Waiter<U>>), TryRecvError>
+) -> Result<(T, Option<Waiter<U>>), TryRecvError>
     requires queue { IsPassOf queue.now end.old }
     requires receives { (view end.old).receives ≡ true }
     ensures queue { IsSamePass end.old end.new }
-    ensures taken { MatchResult result (λ r. (view end.new ≡ hand (view end.old).shares ((view end.old).received ++ r.0 ∷ []) (view end.old).settled) × (r.1.items ≡ gate.old.waiting.items)) (λ e. (view end.new ≡ view end.old) × Arrived (view end.old).shares (view end.old).received (view end.old).settled) }
+    ensures taken { MatchResult result (λ r. (view end.new ≡ hand (view end.old).shares ((view end.old).received ++ r.0 ∷ []) (view end.old).settled) × Calls gate.old.line.waiters.entries r.1 gate.new.line.waiters.entries) (λ e. (view end.new ≡ view end.old) × Arrived (view end.old).shares (view end.old).received (view end.old).settled) }
     ensures registered { result ≡ Err Empty → gate.new.receiver ≡ Some waiter }
-    ensures refused { IfErr result (λ e. is_disconnected e ≡ is_over gate.old) }
-    ensures waiting { MatchResult result (λ r. gate.new.waiting.items ≡ []) (λ e. gate.new.waiting.items ≡ gate.old.waiting.items) }
+    ensures refused { IfErr result (λ e. is_disconnected e ≡ has_ended) }
+    ensures line { IfErr result (λ e. gate.new.line ≡ gate.old.line) }
 {
-    match take_or_refuse(rt, gate, queue, end) {
+    match take_or_refuse(rt, gate, queue, end, has_ended) {
         Ok(taken) => Ok(taken),
         Err(TryRecvError::Disconnected) => Err(TryRecvError::Disconnected),
         Err(TryRecvError::Empty) => {

@@ -2,7 +2,7 @@
 ghost use Rattle.std.specs.Prelude.{◌≡◌, true, false};
 ghost use Rattle.std.specs.declared.option.Option.TheVariants.{None, Some};
 ghost use Rattle.mono_model.specs.Poll.{OnPending};
-ghost use Rattle.mono_channel.specs.Polls.{PollsToReceive, PollsToSend};
+ghost use Rattle.mono_channel.specs.Polls.{PollsToReceive, PollsToSend, PolledEnd};
 ghost use Rattle.mono_channel.specs.Messages.{ReceiveGives, SendGives};
 ghost use Rattle.mono_channel.specs.Queues.{WasFull};
 ghost use Rattle.mono_channel.specs.Spent.{send_spent};
@@ -30,15 +30,30 @@ pub struct Recv<'a, T: Drop, U: Unpark> {
 
 /// A future that sends a message, over a sender that it borrows (`Sender::send`). It waits while each place is taken.
 ///
-/// Giving it up before it has answered sends nothing and leaves the sender as it is. It drops the message, unless
-/// `into_message` takes it.
-#[derive(Drop)]
-pub struct Send<'a, T: Drop, U: Unpark> {
+/// Giving it up before it has answered sends nothing and leaves the sender as it is, out of the line. It drops the message,
+/// unless `into_message` takes it.
+pub struct Send<'a, T: Drop, U: Unpark, R: Host + Drop> {
     pub(crate) sender: &'a mut Sender<T, U>,
     // the message, until the future has answered
     pub(crate) message: Option<T>,
     // the task that waits, after a pending poll
     pub(crate) task: u64,
+    // the handle with which it leaves the line
+    pub(crate) rt: R,
+}
+
+impl<T: Drop, U: Unpark, R: Host + Drop> Drop for Send<'_, T, U, R> {
+    fn drop(self)
+        ensures { self.exit.0.now ≡ self.entry.sender.now }
+    {
+        let Send {
+            sender,
+            message: _,
+            task: _,
+            rt,
+        } = self;
+        sender.leave_line(&rt);
+    }
 }
 
 impl<T: Drop, U: Unpark> Receiver<T, U> {
@@ -65,6 +80,7 @@ impl<T: Drop, U: Unpark> Receiver<T, U> {
         cx: &mut C,
     ) -> Poll<Result<Option<T>, AllocError>>
         ensures polled { PollsToReceive self.old result self.new }
+        ensures ended { PolledEnd result self.new }
         ensures handed { OnPending result (C.has_handed_out cx.new ≡ true) }
         ensures reached { C.reaches cx.old cx.new }
     {
@@ -81,8 +97,9 @@ impl<T: Drop, U: Unpark> Receiver<T, U> {
 }
 
 impl<T: Drop, U: Unpark> Sender<T, U> {
-    /// Returns a future that sends the message, on the sender itself (`sender`, `same_reference`).
-    pub fn send(&mut self, message: T) -> Send<'_, T, U>
+    /// Returns a future that sends the message, on the sender itself (`sender`, `same_reference`). If it is given up, it
+    /// leaves the line by this handle.
+    pub fn send<R: Host + Drop>(&mut self, rt: R, message: T) -> Send<'_, T, U, R>
         ensures same_reference { result.sender.ghost_name ≡ self.entry.ghost_name }
         ensures sender { result.sender.now ≡ self.old }
         ensures message { result.message ≡ Some message }
@@ -91,6 +108,7 @@ impl<T: Drop, U: Unpark> Sender<T, U> {
             sender: self,
             message: Some(message),
             task: 0,
+            rt,
         }
     }
 
@@ -116,17 +134,22 @@ impl<T: Drop, U: Unpark> Sender<T, U> {
         };
         match cx.remote_waker() {
             Ok(waker) => self.send_or_pend(rt, Waiter::Task(waker), again, kept),
-            Err(_) => Poll::Ready(Err(SendError::Memory(again))),
+            Err(_) => {
+                self.leave_line(rt);
+                Poll::Ready(Err(SendError::Memory(again)))
+            }
         }
     }
 }
 
-impl<T: Drop, U: Unpark> Send<'_, T, U> {
+impl<T: Drop, U: Unpark, R: Host + Drop> Send<'_, T, U, R> {
     /// Gives the future up and returns its message, which was not sent; none if the future has answered.
     pub fn into_message(self) -> Option<T>
-        ensures { result ≡ self.entry.message }
+        ensures message { result ≡ self.entry.message }
+        ensures sender { self.exit.0.now ≡ self.entry.sender.now }
     {
-        self.message
+        let mut future = self;
+        mem::replace(&mut future.message, None)
     }
 }
 
@@ -137,7 +160,7 @@ impl<T: Drop, U: Unpark, C: RemoteContext<U>> TaskFuture<C> for Recv<'_, T, U> {
 
     ghost is_spent = { λ f. false };
 
-    ghost polls = { λ f c r g d. PollsToReceive f.receiver.now r g.receiver.now × C.reaches c d × OnPending r ((C.has_handed_out d ≡ true) × (g.task ≡ C.number c)) };
+    ghost polls = { λ f c r g d. PollsToReceive f.receiver.now r g.receiver.now × C.reaches c d × OnPending r ((C.has_handed_out d ≡ true) × (g.task ≡ C.number c)) × PolledEnd r g.receiver.now };
 
     ghost gives = { λ f. ReceiveGives f.receiver.now };
 
@@ -162,7 +185,7 @@ impl<T: Drop, U: Unpark, C: RemoteContext<U>> TaskFuture<C> for Recv<'_, T, U> {
 
 /// The future answers once the message is queued. It fails if the channel or the sender was closed, or if out of memory;
 /// then the message comes back. A pending poll has handed out a waker of the running task, and the channel keeps it.
-impl<T: Drop, U: Unpark, C: RemoteContext<U>> TaskFuture<C> for Send<'_, T, U> {
+impl<T: Drop, U: Unpark, H: Host + Drop, C: RemoteContext<U>> TaskFuture<C> for Send<'_, T, U, H> {
     type Output = Result<(), SendError<T>>;
 
     ghost is_spent = { send_spent };

@@ -1,9 +1,10 @@
 // Futures that send and receive, over an end that each owns and answers.
-ghost use Rattle.std.specs.Prelude.{◌≡◌, IfOk, IfErr, is_none};
+ghost use Rattle.std.specs.Prelude.{◌≡◌, IfOk, IfErr};
 ghost use Rattle.std.specs.declared.option.Option.TheVariants.{None, Some};
 ghost use Rattle.mono_model.specs.declared.poll.Poll.TheVariants.{Ready, Pending};
 ghost use Rattle.mono_channel.specs.Polls.{PollsToReceive, PollsToSend, FindsNone};
 ghost use Rattle.mono_channel.specs.Owned.{IntoSendGives, IntoRecvGives};
+ghost use Rattle.mono_channel.specs.Spent.{sends_by, receives_by, into_send_spent, into_recv_spent};
 
 use crate::ends::{Receiver, Sender};
 use crate::errors::SendError;
@@ -15,12 +16,23 @@ use std::alloc::{AllocError, Global};
 
 /// A future that sends a message, over a sender that it owns (`Sender::into_send`). It answers the sender, too.
 ///
-/// Use it in a loop, whose next turn takes the sender. A future that is given up drops its sender, which is not closed:
-/// under a timeout, in a race or in a select, use `Sender::send`.
-#[derive(Drop)]
-pub struct IntoSend<T: Drop, U: Unpark> {
+/// Use it in a loop, whose next turn takes the sender. A future that is given up drops its sender, which leaves the line
+/// and is not closed: under a timeout, in a race or in a select, use `Sender::send`.
+pub struct IntoSend<T: Drop, U: Unpark, R: Host + Drop> {
     // the sender and the message, until the future has answered
     pub(crate) inner: Option<(Sender<T, U>, T)>,
+    // the handle with which the sender leaves the line
+    pub(crate) rt: R,
+}
+
+impl<T: Drop, U: Unpark, R: Host + Drop> Drop for IntoSend<T, U, R> {
+    fn drop(self) {
+        let IntoSend { inner, rt } = self;
+        if let Some((sender, _)) = inner {
+            let mut sender = sender;
+            sender.leave_line(&rt);
+        }
+    }
 }
 
 /// A future that receives the next message, over a receiver that it owns (`Receiver::into_recv`). It answers the
@@ -35,12 +47,14 @@ pub struct IntoRecv<T: Drop, U: Unpark> {
 }
 
 impl<T: Drop, U: Unpark> Sender<T, U> {
-    /// Returns a future that sends the message and then answers the sender.
-    pub fn into_send(self, message: T) -> IntoSend<T, U>
-        ensures { result.inner ≡ Some (self, message) }
+    /// Returns a future that sends the message and then answers the sender. If it is given up, the sender leaves the line by
+    /// this handle.
+    pub fn into_send<R: Host + Drop>(self, rt: R, message: T) -> IntoSend<T, U, R>
+        ensures { sends_by result ≡ Some (self, message) }
     {
         IntoSend {
             inner: Some((self, message)),
+            rt,
         }
     }
 
@@ -70,7 +84,7 @@ impl<T: Drop, U: Unpark> Sender<T, U> {
 impl<T: Drop, U: Unpark> Receiver<T, U> {
     /// Returns a future that receives the next message and then answers the receiver.
     pub fn into_recv(self) -> IntoRecv<T, U>
-        ensures { result.receiver ≡ Some self }
+        ensures { receives_by result ≡ Some self }
     {
         IntoRecv {
             receiver: Some(self),
@@ -80,12 +94,12 @@ impl<T: Drop, U: Unpark> Receiver<T, U> {
 
 /// The future answers the sender once the message is queued. It fails if the channel or the sender was closed, or if out
 /// of memory; then the message comes back.
-impl<T: Drop, U: Unpark, C: RemoteContext<U>> TaskFuture<C> for IntoSend<T, U> {
+impl<T: Drop, U: Unpark, H: Host + Drop, C: RemoteContext<U>> TaskFuture<C> for IntoSend<T, U, H> {
     type Output = (Sender<T, U>, Result<(), SendError<T>>);
 
-    ghost is_spent = { λ f. is_none f.inner };
+    ghost is_spent = { λ f. into_send_spent f };
 
-    ghost gives = { λ f x. IntoSendGives f.inner x.0 x.1 };
+    ghost gives = { λ f x. IntoSendGives (sends_by f) x.0 x.1 };
 
     ghost cancels = { λ f c d. d ≡ c };
 
@@ -119,9 +133,9 @@ impl<T: Drop, U: Unpark, C: RemoteContext<U>> TaskFuture<C> for IntoSend<T, U> {
 impl<T: Drop, U: Unpark, C: RemoteContext<U>> TaskFuture<C> for IntoRecv<T, U> {
     type Output = (Receiver<T, U>, Result<Option<T>, AllocError>);
 
-    ghost is_spent = { λ f. is_none f.receiver };
+    ghost is_spent = { λ f. into_recv_spent f };
 
-    ghost gives = { λ f x. IntoRecvGives f.receiver x.0 x.1 };
+    ghost gives = { λ f x. IntoRecvGives (receives_by f) x.0 x.1 };
 
     ghost cancels = { λ f c d. d ≡ c };
 

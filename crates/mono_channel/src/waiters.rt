@@ -1,6 +1,7 @@
 // Who waits at a channel.
 use mono_inbox::{RemoteWaker, Unpark, UnparkHandle};
 use mono_model::Host;
+use std::collections::BTreeMap;
 
 /// A task of a runtime, or a thread that has none.
 #[derive(Drop)]
@@ -21,7 +22,7 @@ impl<U: Unpark> Waiter<U> {
     }
 }
 
-/// Wakes who waited to receive, if anyone did.
+/// Wakes this one, if there is one.
 pub(crate) fn wake_first<U: Unpark, R: Host>(rt: &R, first: Option<Waiter<U>>) {
     if let Some(waiter) = first {
         waiter.wake(rt);
@@ -29,8 +30,8 @@ pub(crate) fn wake_first<U: Unpark, R: Host>(rt: &R, first: Option<Waiter<U>>) {
 }
 
 /// Wakes those who waited to send, in the order in which they began to.
-pub(crate) fn wake_all<U: Unpark, R: Host>(rt: &R, waiting: Vec<Waiter<U>>) {
-    for waiter in waiting {
+pub(crate) fn wake_all<U: Unpark, R: Host>(rt: &R, waiting: BTreeMap<u64, Waiter<U>>) {
+    for (_, waiter) in waiting {
         waiter.wake(rt);
     }
 }

@@ -24,6 +24,7 @@ use mono_combine::{
     Join2, JoinList, MaybeDone, PollFn, Select2, SelectList, TryJoin2, TryJoinList,
 };
 use mono_inbox::Unpark;
+use mono_model::Host;
 use mono_stream::{Collect, Fold, ForEach, Next};
 use mono_sync::acts::AtOnce;
 use mono_sync::{Acquire, AcquireAt, Notified, NotifiedAt, mpsc, oneshot, tallies, watch};
@@ -285,8 +286,8 @@ impl<W, T, F> FutureExt for watch::WaitFor<W, T, F> {}
 
 impl<T: Drop, U: Unpark> FutureExt for mono_channel::Recv<'_, T, U> {}
 
-impl<T: Drop, U: Unpark> FutureExt for mono_channel::Send<'_, T, U> {}
+impl<T: Drop, U: Unpark, R: Host + Drop> FutureExt for mono_channel::Send<'_, T, U, R> {}
 
 impl<T: Drop, U: Unpark> FutureExt for mono_channel::IntoRecv<T, U> {}
 
-impl<T: Drop, U: Unpark> FutureExt for mono_channel::IntoSend<T, U> {}
+impl<T: Drop, U: Unpark, R: Host + Drop> FutureExt for mono_channel::IntoSend<T, U, R> {}

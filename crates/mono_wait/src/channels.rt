@@ -4,6 +4,7 @@ ghost use Rattle.mono_wait.specs.Outsides.{OutsideNeeds, outsides_cover};
 use crate::waits::{RemoteWaitContext, Waits};
 use mono_channel::{Recv, Send};
 use mono_inbox::Unpark;
+use mono_model::Host;
 
 // It needs the threads that hold a waker of its task: its senders.
 impl<T: Drop, U: Unpark, C: RemoteWaitContext<U>> Waits<C> for Recv<'_, T, U> {
@@ -17,7 +18,7 @@ impl<T: Drop, U: Unpark, C: RemoteWaitContext<U>> Waits<C> for Recv<'_, T, U> {
 }
 
 // It needs the threads that hold a waker of its task: its receiver.
-impl<T: Drop, U: Unpark, C: RemoteWaitContext<U>> Waits<C> for Send<'_, T, U> {
+impl<T: Drop, U: Unpark, R: Host + Drop, C: RemoteWaitContext<U>> Waits<C> for Send<'_, T, U, R> {
     ghost needs = { λ f. OutsideNeeds };
 
     ghost polls_reach = { λ f c r g d p. p.1 };

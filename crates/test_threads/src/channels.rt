@@ -4,6 +4,7 @@ mod calls;
 mod crossings;
 mod futures;
 mod gaps;
+mod lines;
 mod owned;
 mod seats;
 mod wakes;

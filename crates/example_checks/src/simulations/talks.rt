@@ -1,5 +1,5 @@
 // The two tasks that talk: one sends, the other receives and may be mistaken about the end.
-use mono_channel::{Receiver, Sender};
+use mono_channel::{Receiver, SendError, Sender};
 use mono_rt::{Host, Poll, RemoteContext, Sleep, TaskFuture, TimeContext, UnparkHandle, sleep};
 use std::alloc::Global;
 use std::mem;
@@ -84,7 +84,7 @@ impl Talk {
             sender.close(rt);
             return Poll::Ready(number);
         }
-        match sender.send(number).poll(rt, alloc, cx) {
+        match send_by(rt, cx, &mut sender, number) {
             Poll::Pending => *self = Talk::Sends(Unsent {
                 sender,
                 number,
@@ -149,6 +149,21 @@ impl Talk {
             }
             Poll::Ready(_) => Poll::Ready(count),
         }
+    }
+}
+
+// Sends a number, or waits in line for a place. It fails if the channel was closed or out of memory.
+fn send_by<R: Host, C: RemoteContext<UnparkHandle>>(
+    rt: &R,
+    cx: &mut C,
+    sender: &mut Sender<u64, UnparkHandle>,
+    number: u64,
+) -> Poll<Result<(), SendError<u64>>>
+    ensures { C.reaches cx.old cx.new }
+{
+    match cx.remote_waker() {
+        Ok(waker) => sender.poll_send(rt, &waker, &mut Some(number)),
+        Err(_) => Poll::Ready(Err(SendError::Memory(number))),
     }
 }
 

@@ -83,7 +83,7 @@ fn give_up_send<R: Host + Abort + Copy + Drop>(
 ) -> Option<u64> {
     let inbox = Inbox::new(alloc, 8, NoUnpark).expect(&rt, "memory");
     let mut cx: Gap<R> = nothing(rt, alloc, &inbox);
-    let mut send = sender.send(12);
+    let mut send = sender.send(rt, 12);
     match polled(&rt, alloc, &mut cx, &mut send) {
         Poll::Pending => send.into_message(),
         Poll::Ready(_) => None,

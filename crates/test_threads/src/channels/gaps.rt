@@ -162,7 +162,7 @@ fn sent<R: Host + Abort + Copy + Drop>(
 ) -> Option<bool> {
     let inbox = Inbox::new(alloc, 8, NoUnpark).expect(&rt, "memory");
     let mut cx = with_gap(rt, alloc, &inbox, act);
-    let mut send = sender.send(12);
+    let mut send = sender.send(rt, 12);
     match polled(&rt, alloc, &mut cx, &mut send) {
         Poll::Pending => None,
         Poll::Ready(Ok(())) => Some(true),

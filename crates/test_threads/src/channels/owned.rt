@@ -17,7 +17,7 @@ fn sent<R: Host + Abort + Copy + Drop>(
 ) -> Option<Sender<u64, NoUnpark>> {
     let inbox = Inbox::new(alloc, 8, NoUnpark).expect(&rt, "memory");
     let mut cx = nothing(rt, alloc, &inbox);
-    let mut send = sender.into_send(number);
+    let mut send = sender.into_send(rt, number);
     match polled(&rt, alloc, &mut cx, &mut send) {
         Poll::Ready(answer) => {
             let (sender, sent) = answer;
@@ -118,7 +118,7 @@ fn a_send_that_waits_is_woken(rt: HostRuntime) {
     assert!(rt; is_full);
     let inbox = Inbox::new(alloc, 8, NoUnpark).expect(&rt, "memory");
     let mut cx = nothing(rt, alloc, &inbox);
-    let mut send = sender.into_send(12);
+    let mut send = sender.into_send(rt, 12);
     assert!(rt; answer(&rt, alloc, &mut cx, &mut send).is_none());
     assert_eq!(rt; receiver.try_recv(&rt).ok(), Some(10));
     assert!(rt; is_woken(&rt, alloc, &inbox));

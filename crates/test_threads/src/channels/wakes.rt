@@ -8,14 +8,14 @@ use std::process::Abort;
 
 // An inbox with wakers of the tasks 7 and 8.
 #[derive(Drop)]
-struct Tasks {
-    inbox: Inbox<NoUnpark>,
-    seven: RemoteWaker<NoUnpark>,
-    eight: RemoteWaker<NoUnpark>,
+pub(crate) struct Tasks {
+    pub(crate) inbox: Inbox<NoUnpark>,
+    pub(crate) seven: RemoteWaker<NoUnpark>,
+    pub(crate) eight: RemoteWaker<NoUnpark>,
 }
 
 // Such an inbox. A call that found no memory is made once more.
-fn two_tasks<R: Host + Abort>(rt: &R, alloc: Global) -> Tasks {
+pub(crate) fn two_tasks<R: Host + Abort>(rt: &R, alloc: Global) -> Tasks {
     let inbox = match Inbox::new(alloc, 8, NoUnpark) {
         Ok(inbox) => inbox,
         Err(_) => Inbox::new(alloc, 8, NoUnpark).expect(rt, "memory"),
@@ -43,7 +43,7 @@ fn waker<R: Host + Abort>(
 }
 
 // The sum of the tasks that were woken since the last drain.
-fn woken<R: Host + Abort>(rt: &R, alloc: Global, tasks: &Tasks) -> u64 {
+pub(crate) fn woken<R: Host + Abort>(rt: &R, alloc: Global, tasks: &Tasks) -> u64 {
     let mut list = Vec::new(alloc);
     if tasks.inbox.drain(rt, alloc, &mut list).is_err() {
         tasks.inbox.drain(rt, alloc, &mut list).expect(rt, "memory");
@@ -65,7 +65,7 @@ fn waits<R: Host>(
 }
 
 // The sender waits with this number. A wait that found no memory is begun once more.
-fn holds<R: Host>(
+pub(crate) fn holds<R: Host>(
     rt: &R,
     sender: &mut Sender<u64, NoUnpark>,
     waker: &RemoteWaker<NoUnpark>,
@@ -84,7 +84,7 @@ fn holds<R: Host>(
 }
 
 // Fills both places.
-fn fill<R: Host>(rt: &R, sender: &mut Sender<u64, NoUnpark>) -> bool {
+pub(crate) fn fill<R: Host>(rt: &R, sender: &mut Sender<u64, NoUnpark>) -> bool {
     sender.try_send(rt, 10).is_ok() && sender.try_send(rt, 11).is_ok()
 }
 
@@ -123,7 +123,7 @@ fn a_message_wakes_the_receiver_that_waits(rt: HostRuntime) {
 }
 
 #[test]
-fn a_receive_wakes_the_senders_that_wait(rt: HostRuntime) {
+fn each_receive_wakes_one_sender_that_waits(rt: HostRuntime) {
     let alloc = rt.alloc();
     let tasks = two_tasks(&rt, alloc);
     let (mut sender, mut receiver) = a_channel(alloc).expect(&rt, "memory");
@@ -134,11 +134,13 @@ fn a_receive_wakes_the_senders_that_wait(rt: HostRuntime) {
     assert!(rt; holds(&rt, &mut sender, &tasks.seven, 12));
     assert_eq!(rt; woken(&rt, alloc, &tasks), 0);
     assert!(rt; receiver.try_recv(&rt).is_ok());
-    assert_eq!(rt; woken(&rt, alloc, &tasks), 15);
+    assert_eq!(rt; woken(&rt, alloc, &tasks), 7);
     assert!(rt; sender.try_send(&rt, 12).is_ok());
     assert!(rt; holds(&rt, &mut second, &tasks.eight, 13));
     assert!(rt; receiver.try_recv(&rt).is_ok());
     assert_eq!(rt; woken(&rt, alloc, &tasks), 8);
+    assert!(rt; receiver.try_recv(&rt).is_ok());
+    assert_eq!(rt; woken(&rt, alloc, &tasks), 0);
 }
 
 // The tasks that were woken since the last drain, in order: the first one is the tens.
@@ -155,20 +157,6 @@ fn woken_in_order<R: Host + Abort>(rt: &R, alloc: Global, tasks: &Tasks) -> u64 
 }
 
 #[test]
-fn the_first_sender_that_waits_is_woken_first(rt: HostRuntime) {
-    let alloc = rt.alloc();
-    let tasks = two_tasks(&rt, alloc);
-    let (mut sender, mut receiver) = a_channel(alloc).expect(&rt, "memory");
-    let mut second = sender.try_clone(&rt).expect(&rt, "a count");
-    assert!(rt; fill(&rt, &mut sender));
-    assert!(rt; holds(&rt, &mut second, &tasks.eight, 13));
-    assert!(rt; holds(&rt, &mut sender, &tasks.seven, 12));
-    assert!(rt; holds(&rt, &mut second, &tasks.eight, 13));
-    assert!(rt; receiver.try_recv(&rt).is_ok());
-    assert_eq!(rt; woken_in_order(&rt, alloc, &tasks), 87);
-}
-
-#[test]
 fn a_close_wakes_the_senders_that_wait(rt: HostRuntime) {
     let alloc = rt.alloc();
     let tasks = two_tasks(&rt, alloc);
@@ -178,7 +166,7 @@ fn a_close_wakes_the_senders_that_wait(rt: HostRuntime) {
     assert!(rt; holds(&rt, &mut sender, &tasks.seven, 12));
     assert!(rt; holds(&rt, &mut second, &tasks.eight, 13));
     receiver.close(&rt);
-    assert_eq!(rt; woken(&rt, alloc, &tasks), 15);
+    assert_eq!(rt; woken_in_order(&rt, alloc, &tasks), 78);
     let mut message = Some(12);
     let answer = sender.poll_send(&rt, &tasks.seven, &mut message);
     assert!(rt; matches!(answer, Poll::Ready(Err(SendError::Closed(12)))));

@@ -17,8 +17,8 @@ returns-in-Ok g c =
     (λ y given.
     let turn : (into : IntoRecv ℕ UnparkHandle) × (into.receiver ≡ Some c.args.receiver) × (c.repeat-task.ensures.0.inner ≡ Some (into, record { 0 = 0 })) = search rules in
     map_gives _ _ c.repeat-task.ensures.0.inner y given turn.0 (record { 0 = 0 }) turn.2 _
-    (λ x gave led. receive_keeps (λ d. d.value) (λ d. d.number) c.args.receiver c.args.receiver x.0 0 x.1 ((refl, refl), refl, none_received _ c.requires) (subst (λ o. IntoRecvGives o x.0 x.1) turn.1 gave) y (search rules)))
+    (λ x gave led. receive_keeps (λ d. d.value) (λ d. d.number) c.args.receiver c.args.receiver x.0 0 x.1 ((refl, refl), refl, none_received _ c.requires) (subst (λ o. IntoRecvGives o x.0 x.1) turn.1 gave).0 y (search rules)))
     (λ f s a f' i called y given.
     let turn : (into : IntoRecv ℕ UnparkHandle) × (into.receiver ≡ Some s.0) × (a.inner ≡ Some (into, record { 0 = s.1 })) = search rules in
     map_gives _ _ a.inner y given turn.0 (record { 0 = s.1 }) turn.2 _
-    (λ x gave led. receive_keeps (λ d. d.value) (λ d. d.number) c.args.receiver s.0 x.0 s.1 x.1 i (subst (λ o. IntoRecvGives o x.0 x.1) turn.1 gave) y (search rules)))
+    (λ x gave led. receive_keeps (λ d. d.value) (λ d. d.number) c.args.receiver s.0 x.0 s.1 x.1 i (subst (λ o. IntoRecvGives o x.0 x.1) turn.1 gave).0 y (search rules)))

@@ -3,6 +3,7 @@ use Rattle.std.specs.Global.{Vec}
 use Rattle.lease_server.specs.Threads.{ArePaired, HaveAnswered, HaveBegun}
 use Rattle.lease_server.specs.declared.lanes.Lane.{Lane}
 use Rattle.lease_server.specs.declared.refusals.Refusals.{Refusals}
+use Rattle.mono_channel.specs.Ends.{closed}
 use Rattle.lease_server.proofs.ThreadLemmas.{collects, pairs_by, settles}
 use Rattle.lease_server.proofs.servers.settle_all.Goals as goal
 
@@ -17,7 +18,7 @@ returns g c =
     let wrote = c.args.wrote in
     let first = c.settle.new.self in
     let last = c.settle_cores-is_done.new.texts in
-    let sender = c.into_sender.result in
+    let sender = closed c.into_sender.result in
     let own = c.into_sender.ensures ∙ ap (λ (r : Refusals). r.outlet.sender) c.into_parts-lanes.ensures.1 in
     let one = c.settle.ensures in
     let more = c.settle_cores-is_done.ensures in
