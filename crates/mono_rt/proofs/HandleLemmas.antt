@@ -26,15 +26,15 @@ use Rattle.mono_rt.specs.declared.parts.state.Parts.{Parts}
 use Rattle.mono_rt.proofs.NumberLemmas.{numbered-joined, join_answer-numbered, numbered-dropped, drop_answer-numbered}
 use Rattle.mono_rt.proofs.CallLemmas.{other_tasks}
 
--- An output is taken by whomever polls: the tasks after it are valid, also if the poll is by a task that was not given out.
-pending-ready : (x : ℕ) → Ok {E = TaskError} (Pending {T = ℕ}) ≡ Ok (Ready x) → ⊥
-pending-ready x e = cc
+pending_ready : (x : ℕ) (r : Result (Poll ℕ) TaskError) → r ≡ Ok Pending → r ≡ Ok (Ready x) → ⊥
+pending_ready x r p q = cc
 
+-- An output is taken: the tasks after it are valid, also if the poll is by a task that was not given out.
 module _ (tasks : Tasks ℕ) (t by x : ℕ) (valid : AreValidTasks None tasks) where
   taken_in : (phase : Phase ℕ) → output_in phase ≡ Ok (Ready x) → joined_in phase tasks t t ≡ joined_in phase tasks t by
-  taken_in idle is = absurd (pending-ready x is)
-  taken_in queued is = absurd (pending-ready x is)
-  taken_in (running noted) is = absurd (pending-ready x is)
+  taken_in idle is = absurd (pending_ready x (Ok Pending) refl is)
+  taken_in queued is = absurd (pending_ready x (Ok Pending) refl is)
+  taken_in (running noted) is = absurd (pending_ready x (Ok Pending) refl is)
   taken_in (done output) is = refl
   taken_in taken is = refl
 
