@@ -81,9 +81,9 @@ module _ {F O P U W J A V : Type 0} (number : O → ℕ) (sharing : SharedOf W) 
   turn_holds e true owed m mid store left reading steps answer told held step turn next = record {
     valid = step_is_valid m (event.Turn steps e) answer mid turn.stands.valid step;
     held =
-      own_turn m mid store left reading steps answer (subst (λ y. Step m (event.Turn steps y) answer mid) next.is_pending step)
-      (leaves m store reading steps answer left (subst (λ y. TellsTurn number sharing future has_timers m store reading steps y answer left) next.is_pending turn)) told
-      (subst (λ y. NeedsAfter number sharing future needs has_timers t x store left steps y) next.is_pending next);
+        own_turn m mid store left reading steps answer (subst (λ y. Step m (event.Turn steps y) answer mid) next.is_pending step)
+        (leaves m store reading steps answer left (subst (λ y. TellsTurn number sharing future has_timers m store reading steps y answer left) next.is_pending turn)) told
+        (subst (λ y. NeedsAfter number sharing future needs has_timers t x store left steps y) next.is_pending next);
   }
 
   pub waiting : (part : List Entry) (owed : Type 0) (m : Machine) (store : Store F W) (reading : ℕ) → (owed → HoldsValid m) → Polled number sharing future has_timers m store reading part → Waiting number sharing future needs has_timers t x owed m store reading part
