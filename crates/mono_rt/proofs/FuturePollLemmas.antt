@@ -12,7 +12,7 @@ use Rattle.mono_machine.specs.declared.events.Event.TheVariants as event
 use Rattle.mono_machine.specs.declared.events.Report.TheVariants as report
 use Rattle.mono_blocking.specs.JobSpawns.{Seen}
 use Rattle.mono_rt.specs.Record.{no_acts}
-use Rattle.mono_rt.specs.Refinement.{hosting_of, Matches}
+use Rattle.mono_rt.specs.Refinement.{hosting_of, MatchesValid}
 use Rattle.mono_rt.specs.Journals.{Did, Does, IsStep, Stays}
 use Rattle.mono_rt.specs.Rounds.{Remotes, Drained, IsPark, ClockIf, Parks, Pauses, Pause, PausesBreak, PauseBreaks, PausesFail, PauseFails, PauseEnds, IsSpawn, DropsFor}
 use Rattle.mono_rt.specs.Turns.{Turn}
@@ -190,7 +190,7 @@ module _ {F O P U W J A V : Type 0} (number : O → ℕ) (sharing : SharedOf W) 
       (subst (λ x. PolledBy number sharing future h lasts x (store_of old) (nanos_of now) ys) reads.1 (tells polled)))
       read (record { did = told })
     where
-      told : (m : Machine) → Matches number hosting_of opened.parts m → Did number (From (store_of old) (store_of left) (nanos_of now)) opened.parts left.parts j k m
+      told : (m : Machine) → MatchesValid number hosting_of opened.parts m → Did number (From (store_of old) (store_of left) (nanos_of now)) opened.parts left.parts j k m
       told m st =
           let did = step.did m st in
           record {
@@ -235,7 +235,7 @@ module _ {F O P U W J A V : Type 0} (number : O → ℕ) (sharing : SharedOf W) 
 
 module _ {F O P U W J A V : Type 0} (number : O → ℕ) (sharing : SharedOf W) (future : FutureOf F (Cx F O P U W J A V) O) (main : F) where
   -- the whole history has such turns, if it was empty before the call
-  whole_of : (R : Bool → Store F W → Machine → List Entry → Machine → List Entry → Type 0) (w : W) (g h : Bool) (fs : Store F W) (c d : Parts O (Seen P)) (j k l : Journal) (m n : Machine) → g ≡ h → fs ≡ first_store w → m ≡ n → Matches number hosting_of c m → j.history.entries ≡ [] → l ≡ k
+  whole_of : (R : Bool → Store F W → Machine → List Entry → Machine → List Entry → Type 0) (w : W) (g h : Bool) (fs : Store F W) (c d : Parts O (Seen P)) (j k l : Journal) (m n : Machine) → g ≡ h → fs ≡ first_store w → m ≡ n → MatchesValid number hosting_of c m → j.history.entries ≡ [] → l ≡ k
       → Does number (R g fs) c d j k → (new : Machine) × R h (first_store w) n l.history.entries new []
   whole_of R w g h fs c d j k l m n timers none machine st empty same did =
       let whole = relation_of number (R g fs) c d j k l m st empty same did in (
@@ -243,7 +243,7 @@ module _ {F O P U W J A V : Type 0} (number : O → ℕ) (sharing : SharedOf W) 
         subst (λ x. R h (first_store w) x l.history.entries whole.0 []) machine (subst (λ b. R b (first_store w) m l.history.entries whole.0 []) timers (subst (λ xs. R g xs m l.history.entries whole.0 []) none whole.1)),
       )
 
-  pub still_whole : (w : W) (g h : Bool) (fs gs : Store F W) (c d : Parts O (Seen P)) (j k l : Journal) (m n : Machine) (answer : Result O RunError) → g ≡ h → fs ≡ first_store w → m ≡ n → Matches number hosting_of c m → j.history.entries ≡ [] → l ≡ k
+  pub still_whole : (w : W) (g h : Bool) (fs gs : Store F W) (c d : Parts O (Seen P)) (j k l : Journal) (m n : Machine) (answer : Result O RunError) → g ≡ h → fs ≡ first_store w → m ≡ n → MatchesValid number hosting_of c m → j.history.entries ≡ [] → l ≡ k
       → OnLack answer (Does number (StillPollsMain number sharing future g main fs gs) c d j k)
       → OnLack answer ((new : Machine) × ((left : Store F W) × StillPollsMain number sharing future h main (first_store w) left n l.history.entries new []))
   still_whole w g h fs gs c d j k l m n answer timers none machine st empty same polled =
@@ -253,7 +253,7 @@ module _ {F O P U W J A V : Type 0} (number : O → ℕ) (sharing : SharedOf W) 
       (whole.0, (gs, whole.1)))
       polled
 
-  pub polls_whole : (w : W) (g h : Bool) (fs gs : Store F W) (c d : Parts O (Seen P)) (j k l : Journal) (m n : Machine) (answer : Result O RunError) → g ≡ h → fs ≡ first_store w → m ≡ n → Matches number hosting_of c m → j.history.entries ≡ [] → l ≡ k
+  pub polls_whole : (w : W) (g h : Bool) (fs gs : Store F W) (c d : Parts O (Seen P)) (j k l : Journal) (m n : Machine) (answer : Result O RunError) → g ≡ h → fs ≡ first_store w → m ≡ n → MatchesValid number hosting_of c m → j.history.entries ≡ [] → l ≡ k
       → OnMain answer (Does number (PollsMain number sharing future g main fs gs) c d j k)
       → OnMain answer ((new : Machine) × ((left : Store F W) × PollsMain number sharing future h main (first_store w) left n l.history.entries new []))
   polls_whole w g h fs gs c d j k l m n answer timers none machine st empty same polled =

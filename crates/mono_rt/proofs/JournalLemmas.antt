@@ -10,7 +10,7 @@ use Rattle.mono_model.specs.FireOrder.{FireInTurn}
 use Rattle.mono_model.proofs.FireLemmas.{may_fire}
 use Rattle.mono_time.specs.Sleeps.{IsNoneArmedUpTo}
 use Rattle.mono_time.specs.Timers.{sleeps_of, elapsed_tick}
-use Rattle.mono_machine.specs.Machine.{Machine, with_tasks, with_sleeps}
+use Rattle.mono_machine.specs.Machine.{Machine, with_tasks, with_sleeps, IsValid}
 use Rattle.mono_machine.specs.Steps.{Step, Run, at_clock, greatest_at, after_fires, all_fired, wakers_of, ClockStep}
 use Rattle.mono_machine.specs.Turns.{turn_report, after_turn}
 use Rattle.mono_time.specs.Refinement.{Keeps}
@@ -20,9 +20,10 @@ use Rattle.mono_machine.specs.declared.events.Report.{Report}
 use Rattle.mono_machine.specs.declared.events.Report.TheVariants as report
 use Rattle.mono_machine.specs.declared.events.End.{End}
 use Rattle.mono_machine.proofs.FireLemmas.{fires-apart}
+use Rattle.mono_machine.proofs.ValidStepLemmas.{step_is_valid}
 use Rattle.mono_rt.specs.Numbering.{numbered, drop_numbered}
 use Rattle.mono_blocking.specs.JobSpawns.{Seen}
-use Rattle.mono_rt.specs.Refinement.{hosting_of, Matches}
+use Rattle.mono_rt.specs.Refinement.{hosting_of, Matches, MatchesValid}
 use Rattle.mono_rt.specs.PartTurns.{IsTurnOf}
 use Rattle.mono_rt.specs.Journals.{events_in, reports_in, Follows, Registers, Went, Goes, Does, Led, Stays, IsStep}
 use Rattle.mono_rt.specs.declared.parts.state.Parts.{Parts}
@@ -51,6 +52,13 @@ follows_on a b c (Ran e r ∷ xs) ys (mid, step, rest) q = (mid, step, follows_o
 follows_on a b c (Now n ∷ xs) ys p q = follows_on a b c xs ys p q
 follows_on a b c (Park v ∷ xs) ys p q = follows_on a b c xs ys p q
 
+-- the entries lead from a valid machine to a valid one
+pub follows_valid : (a b : Machine) (xs : List Entry) → IsValid a → Follows a xs b → IsValid b
+follows_valid a b [] valid p = subst IsValid (sym p) valid
+follows_valid a b (Ran e r ∷ xs) valid (mid, step, rest) = follows_valid mid b xs (step_is_valid a e r mid valid step) rest
+follows_valid a b (Now n ∷ xs) valid p = follows_valid a b xs valid p
+follows_valid a b (Park v ∷ xs) valid p = follows_valid a b xs valid p
+
 -- the events that were done are a run
 pub follows_run : (a b : Machine) (xs : List Entry) → Follows a xs b → Run a (events_in xs) (reports_in xs) b
 follows_run a b [] p = p
@@ -59,9 +67,17 @@ follows_run a b (Now n ∷ xs) p = follows_run a b xs p
 follows_run a b (Park v ∷ xs) p = follows_run a b xs p
 
 module _ {O P : Type 0} (number : O → ℕ) where
+  -- the same machine, of other parts that are its own, too
+  same_valid : (c d : Parts O (Seen P)) (m : Machine) → d.tasks ≡ c.tasks → d.timers ≡ c.timers → d.has_timers ≡ c.has_timers → d.blocking ≡ c.blocking → MatchesValid number hosting_of c m → MatchesValid number hosting_of d m
+  same_valid c d m tasks timers has blocking st = record { matches = same_machine number hosting_of c d m tasks timers has blocking st.matches; valid = st.valid }
+
+  -- the machine after a step
+  stepped_valid : (d : Parts O (Seen P)) (m : Machine) (e : Event) (r : Report) (new : Machine) → IsValid m → Step m e r new → Matches number hosting_of d new → MatchesValid number hosting_of d new
+  stepped_valid d m e r new valid step matches = record { matches = matches; valid = step_is_valid m e r new valid step }
+
   pub goes_nowhere : (c d : Parts O (Seen P)) (j k : Journal) → d.tasks ≡ c.tasks → d.timers ≡ c.timers → d.has_timers ≡ c.has_timers → d.blocking ≡ c.blocking → k.history.entries ≡ j.history.entries → Goes number c d j k
   goes_nowhere c d j k tasks timers has blocking entries = record {
-    went = λ m st. record { part = []; new = m; grew = entries ∙ sym (append-nil j.history.entries); follows = refl; registers = (refl, λ s. ap (λ t. registered_of t s) timers); matches = same_machine number hosting_of c d m tasks timers has blocking st };
+    went = λ m st. record { part = []; new = m; grew = entries ∙ sym (append-nil j.history.entries); follows = refl; registers = (refl, λ s. ap (λ t. registered_of t s) timers); matches = same_valid c d m tasks timers has blocking st };
   }
 
   pub goes_on : (a b c : Parts O (Seen P)) (i j k : Journal) → Goes number a b i j → Goes number b c j k → Goes number a c i k
@@ -85,7 +101,7 @@ module _ {O P : Type 0} (number : O → ℕ) where
   pub does_stay : (c d : Parts O (Seen P)) (j k : Journal) → d.tasks ≡ c.tasks → d.timers ≡ c.timers → d.has_timers ≡ c.has_timers → d.blocking ≡ c.blocking → k.history.entries ≡ j.history.entries → Does number Stays c d j k
   does_stay c d j k tasks timers has blocking entries = record {
     did = λ m st. record {
-      went = record { part = []; new = m; grew = entries ∙ sym (append-nil j.history.entries); follows = refl; registers = (refl, λ s. ap (λ t. registered_of t s) timers); matches = same_machine number hosting_of c d m tasks timers has blocking st };
+      went = record { part = []; new = m; grew = entries ∙ sym (append-nil j.history.entries); follows = refl; registers = (refl, λ s. ap (λ t. registered_of t s) timers); matches = same_valid c d m tasks timers has blocking st };
       is = λ rest. (refl, refl);
     };
   }
@@ -101,9 +117,9 @@ module _ {O P : Type 0} (number : O → ℕ) where
       → ((m : Machine) → Matches number hosting_of c m → (s : ℕ) → registered_of d.timers s ≡ registered_after e m s (registered_of c.timers s)) → Does number (IsStep e r) c d j k
   does_by c d j k e r grew steps registered = record {
     did = λ m st.
-        let left = steps m st in
+        let left = steps m st.matches in
         record {
-          went = record { part = Ran e r ∷ []; new = left.0; grew = grew; follows = (left.0, left.1, refl); registers = (left.0, left.1, (refl, registered m st)); matches = left.2 };
+          went = record { part = Ran e r ∷ []; new = left.0; grew = grew; follows = (left.0, left.1, refl); registers = (left.0, left.1, (refl, registered m st.matches)); matches = stepped_valid d m e r left.0 st.valid left.1 left.2 };
           is = λ rest. (refl, left.1);
         };
   }
@@ -112,7 +128,7 @@ module _ {O P : Type 0} (number : O → ℕ) where
   pub does_past : (R : Machine → List Entry → Machine → List Entry → Type 0) (c : Parts O (Seen P)) (j k : Journal) (entries : List Entry) → k.history.entries ≡ j.history.entries ++ entries → ((m : Machine) → Follows m entries m) → ((m : Machine) → Matches number hosting_of c m → Registers None m (registered_of c.timers) entries m (registered_of c.timers))
       → ((m : Machine) → Matches number hosting_of c m → (rest : List Entry) → R m (entries ++ rest) m rest) → Does number R c c j k
   does_past R c j k entries grew still ticks is = record {
-    did = λ m st. record { went = record { part = entries; new = m; grew = grew; follows = still m; registers = ticks m st; matches = st }; is = is m st };
+    did = λ m st. record { went = record { part = entries; new = m; grew = grew; follows = still m; registers = ticks m st.matches; matches = st }; is = is m st.matches };
   }
 
   -- a turn
@@ -121,7 +137,7 @@ module _ {O P : Type 0} (number : O → ℕ) where
       → ((m : Machine) → Matches number hosting_of d m → Matches number hosting_of x m) → x.timers ≡ d.timers → Does number (IsStep (event.Turn d.acts.steps e) (report.Turn t d.acts.replies ended)) c x j k
   does_turn c d x j k t e ended is kept same timers = record {
     did = λ m st.
-        let turn : IsTurnOf number t e ended c d m = is m st in
+        let turn : IsTurnOf number t e ended c d m = is m st.matches in
         let told = turn.kept in
         let step : Step m (event.Turn d.acts.steps e) (report.Turn t d.acts.replies ended) (after_turn turn.steps e m) = (sym told.1 ∙ ap (λ s. turn_report s e m) (sym told.0), ap (λ s. after_turn s e m) (sym told.0)) in
         record {
@@ -131,7 +147,7 @@ module _ {O P : Type 0} (number : O → ℕ) where
             grew = kept;
             follows = (after_turn turn.steps e m, step, refl);
             registers = (after_turn turn.steps e m, step, (refl, λ s. ap (λ ts. registered_of ts s) timers ∙ turn.registered s ∙ ap (λ xs. registered_after (event.Turn xs e) m s (registered_of c.timers s)) (sym told.0)));
-            matches = same _ turn.matches;
+            matches = stepped_valid x m (event.Turn d.acts.steps e) (report.Turn t d.acts.replies ended) (after_turn turn.steps e m) st.valid step (same _ turn.matches);
           };
           is = λ rest. (refl, step);
         };
@@ -205,14 +221,14 @@ module _ {O P : Type 0} (number : O → ℕ) where
       (λ m st. stays_registered c.timers d.timers m.sleeps _ timers refl)
 
   -- the entries after an empty history are a run
-  pub run_of : (c d : Parts O (Seen P)) (j k l : Journal) (m : Machine) → Matches number hosting_of c m → j.history.entries ≡ [] → l ≡ k → Goes number c d j k → (new : Machine) × Run m (events_in l.history.entries) (reports_in l.history.entries) new
+  pub run_of : (c d : Parts O (Seen P)) (j k l : Journal) (m : Machine) → MatchesValid number hosting_of c m → j.history.entries ≡ [] → l ≡ k → Goes number c d j k → (new : Machine) × Run m (events_in l.history.entries) (reports_in l.history.entries) new
   run_of c d j k l m st empty same goes =
       let went = goes.went m st in
       let part : went.part ≡ l.history.entries = sym (ap (λ x. x.history.entries) same ∙ went.grew ∙ ap (λ xs. xs ++ went.part) empty) in
       (went.new, subst (λ xs. Run m (events_in xs) (reports_in xs) went.new) part (follows_run m went.new went.part went.follows))
 
   -- and the parks are those of the wheel, if no sleep was registered
-  pub registers_of : (c d : Parts O (Seen P)) (j k l : Journal) (m : Machine) → Matches number hosting_of c m → j.history.entries ≡ [] → l ≡ k → ((s : ℕ) → registered_of c.timers s ≡ None) → Goes number c d j k
+  pub registers_of : (c d : Parts O (Seen P)) (j k l : Journal) (m : Machine) → MatchesValid number hosting_of c m → j.history.entries ≡ [] → l ≡ k → ((s : ℕ) → registered_of c.timers s ≡ None) → Goes number c d j k
       → (new : Machine) × ((left : ℕ → Option ℕ) × Registers None m (λ s. None) l.history.entries new left)
   registers_of c d j k l m st empty same none goes =
       let went = goes.went m st in

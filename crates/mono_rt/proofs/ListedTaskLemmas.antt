@@ -18,6 +18,7 @@ use Rattle.mono_machine.specs.Turns.{after_steps, after_begin, after_end, replie
 use Rattle.mono_machine.specs.Steps.{Step, ClockStep, has_finished, remote_report}
 use Rattle.mono_machine.specs.History.{is_turn_of, is_awaiting}
 use Rattle.mono_machine.specs.Watches.{is_stirred, is_stirred_in}
+use Rattle.mono_machine.specs.declared.events.Event.{Event}
 use Rattle.mono_machine.specs.declared.events.Event.TheVariants as event
 use Rattle.mono_machine.specs.declared.events.TurnStep.{TurnStep}
 use Rattle.mono_machine.specs.declared.events.End.{End}
@@ -179,8 +180,13 @@ module _ {F O P U W J A V : Type 0} (number : O → ℕ) (sharing : SharedOf W) 
   paid_turn None t e ended c d runs = unpolled t None e ended c d runs.1
   paid_turn (Some f) t e ended c d runs = by_spent (future.is_spent f) t f e ended c d runs
 
+  -- the machine is valid, and the task is listed, or the queue or the inbox keeps it
+  pub record IsHeld (p : List ℕ) (t : ℕ) (m : Machine) (store : Store F W) : Type 0 where
+    pub valid : IsValid m
+    pub is : (sharing.lists store.shared p t ≡ true) ⊎ IsKept t m
+
   module _ (has_timers lasts : Bool) where
-    module _ (m mid : Machine) (store left : Store F W) (reading : ℕ) (steps : List TurnStep) (e : End) (answer : Report) (valid : IsValid m) (step : Step m (event.Turn steps e) answer mid)
+    module _ (m mid : Machine) (store left : Store F W) (reading : ℕ) (steps : List TurnStep) (e : End) (answer : Report) (step : Step m (event.Turn steps e) answer mid)
         (tells : TellsTurnBy number sharing future has_timers lasts m store reading steps e answer left) where
       abbrev begun : Cx F O P U W J A V
       begun = tells.turn.begun
@@ -206,13 +212,16 @@ module _ {F O P U W J A V : Type 0} (number : O → ℕ) (sharing : SharedOf W) 
       matches : Matches number hosting_of turn.paid.parts at_end
       matches =
           let rest = queue.0 in
-          let start : Matches number hosting_of begun.parts (after_begin tells.task rest m) = begun_matches number tells.before.parts begun.parts tells.task tells.now (no_acts tells.is_unread) m rest tells.turn.begins.parts queue.1 tells.stands in
+          let start : Matches number hosting_of begun.parts (after_begin tells.task rest m) = begun_matches number tells.before.parts begun.parts tells.task tells.now (no_acts tells.is_unread) m rest tells.turn.begins.parts queue.1 tells.stands.matches in
           subst (λ xs. Matches number hosting_of turn.paid.parts (after_steps tells.task xs (after_begin tells.task rest m))) acts
           (subst (λ me. Matches number hosting_of turn.paid.parts (after_steps me leads.steps (after_begin tells.task rest m))) tells.turn.begins.parts.me
           (leads.leads (after_begin tells.task rest m) start))
 
       valid_end : IsValidDuring (Some tells.task) at_end
-      valid_end = steps_valid tells.task steps (after_begin tells.task queue.0 m) (begin_valid m tells.task queue.0 queue.1 valid)
+      valid_end = steps_valid tells.task steps (after_begin tells.task queue.0 m) (begin_valid m tells.task queue.0 queue.1 tells.stands.valid)
+
+      valid_mid : IsValid mid
+      valid_mid = step_is_valid m (event.Turn steps e) answer mid tells.stands.valid step
 
       kept_by_payment : (u : ℕ) → IsStirred turn.paid u → IsKept u mid
       kept_by_payment u stirred =
@@ -244,29 +253,43 @@ module _ {F O P U W J A V : Type 0} (number : O → ℕ) (sharing : SharedOf W) 
         | inr there ↦ there.1 (sym same)
       ]
 
-      stands : (p : List ℕ) (u : ℕ) (b : Bool) (known : Type 0) → is_turn_of u answer ≡ b → (known → (sharing.lists store.shared p u ≡ true) ⊎ IsKept u m)
-          → KnownAfter b (LeavesListed number sharing future has_timers lasts m store reading steps e answer left tells p u) known → (sharing.lists left.shared p u ≡ true) ⊎ IsKept u mid
-      stands p u true known is held leaves = own_turn p u leaves
-      stands p u false known is held before = elim (held before) [
-        | inl listed ↦ other_turn p u (is_own u is) listed
-        | inr kept ↦ inr (event_kept u m (event.Turn steps e) answer mid valid kept step is)
-      ]
+      stands : (p : List ℕ) (u : ℕ) (b : Bool) (known : Type 0) → is_turn_of u answer ≡ b → (known → IsHeld p u m store)
+          → KnownAfter b (LeavesListed number sharing future has_timers lasts m store reading steps e answer left tells p u) known → IsHeld p u mid left
+      stands p u true known is held leaves = record { valid = valid_mid; is = own_turn p u leaves }
+      stands p u false known is held before =
+          let was : IsHeld p u m store = held before in
+          record {
+            valid = valid_mid;
+            is = elim was.is [
+              | inl listed ↦ other_turn p u (is_own u is) listed
+              | inr kept ↦ inr (event_kept u m (event.Turn steps e) answer mid was.valid kept step is)
+            ];
+          }
 
-    -- each task that is known to be listed is, or the queue or the inbox keeps it
+    -- each task that is known to be listed is held
     abbrev Held : (List ℕ → ℕ → Type 0) → Machine → Store F W → Type 0
-    Held known m store = (p : List ℕ) (t : ℕ) → known p t → (sharing.lists store.shared p t ≡ true) ⊎ IsKept t m
+    Held known m store = (p : List ℕ) (t : ℕ) → known p t → IsHeld p t m store
 
-    at_park : (p : List ℕ) (t : ℕ) (m : Machine) (store : Store F W) → IsValid m → IsAtRest m → has_finished (value_at m.tasks.table t) ≡ false → (sharing.lists store.shared p t ≡ true) ⊎ IsKept t m → sharing.lists store.shared p t ≡ true
-    at_park p t m store valid rest unfinished (inl listed) = listed
-    at_park p t m store valid rest unfinished (inr kept) = absurd (true-false (sym (waits t m valid kept unfinished) ∙ none_awaits m t valid rest))
+    at_park : (p : List ℕ) (t : ℕ) (m : Machine) (store : Store F W) → IsAtRest m → has_finished (value_at m.tasks.table t) ≡ false → IsHeld p t m store → sharing.lists store.shared p t ≡ true
+    at_park p t m store rest unfinished held = elim held.is [
+      | inl listed ↦ listed
+      | inr kept ↦ absurd (true-false (sym (waits t m held.valid kept unfinished) ∙ none_awaits m t held.valid rest))
+    ]
 
-    pub finds_listed : (part : List Entry) (known : List ℕ → ℕ → Type 0) (paid : Type 0) (m : Machine) (store : Store F W) (reading : ℕ) → IsValid m → Held known m store → (paid → sharing.owes store.shared ≡ [])
+    -- an event that is no turn leaves the shared value
+    held_on : (p : List ℕ) (t : ℕ) (m : Machine) (e : Event) (answer : Report) (mid : Machine) (store : Store F W) → IsHeld p t m store → Step m e answer mid → is_turn_of t answer ≡ false → IsHeld p t mid store
+    held_on p t m e answer mid store held step other = record {
+      valid = step_is_valid m e answer mid held.valid step;
+      is = elim held.is [ inl listed ↦ inl listed | inr kept ↦ inr (event_kept t m e answer mid held.valid kept step other) ];
+    }
+
+    pub finds_listed : (part : List Entry) (known : List ℕ → ℕ → Type 0) (paid : Type 0) (m : Machine) (store : Store F W) (reading : ℕ) → Held known m store → (paid → sharing.owes store.shared ≡ [])
         → PolledBy number sharing future has_timers lasts m store reading part → FindsListed number sharing future has_timers lasts known paid m store reading part
-    finds_listed [] known paid m store reading valid held clear polled = tt
-    finds_listed (Now n ∷ part) known paid m store reading valid held clear polled = finds_listed part known paid m store n valid held clear polled
-    finds_listed (Park wait ∷ part) known paid m store reading valid held clear (rest, polled) =
-        (λ p t is unfinished. at_park p t m store valid rest unfinished (held p t is), (clear, finds_listed part known paid m store reading valid held clear polled))
-    finds_listed (Ran (event.Turn steps e) answer ∷ part) known paid m store reading valid held clear (mid, (left, (step, tells, polled))) = (
+    finds_listed [] known paid m store reading held clear polled = tt
+    finds_listed (Now n ∷ part) known paid m store reading held clear polled = finds_listed part known paid m store n held clear polled
+    finds_listed (Park wait ∷ part) known paid m store reading held clear (rest, polled) =
+        (λ p t is unfinished. at_park p t m store rest unfinished (held p t is), (clear, finds_listed part known paid m store reading held clear polled))
+    finds_listed (Ran (event.Turn steps e) answer ∷ part) known paid m store reading held clear (mid, (left, (step, tells, polled))) = (
       mid,
       (
         left,
@@ -275,24 +298,23 @@ module _ {F O P U W J A V : Type 0} (number : O → ℕ) (sharing : SharedOf W) 
           (
             tells,
             finds_listed part (λ p t. KnownAfter (is_turn_of t answer) (LeavesListed number sharing future has_timers lasts m store reading steps e answer left tells p t) (known p t)) ⊤ mid left reading
-                (step_is_valid m (event.Turn steps e) answer mid valid step)
-                (λ p t is. stands m mid store left reading steps e answer valid step tells p t (is_turn_of t answer) (known p t) refl (held p t) is)
-                (λ turned. nothing_owed m mid store left reading steps e answer valid step tells) polled,
+                (λ p t is. stands m mid store left reading steps e answer step tells p t (is_turn_of t answer) (known p t) refl (held p t) is)
+                (λ turned. nothing_owed m mid store left reading steps e answer step tells) polled,
           ),
         ),
       ),
     )
-    finds_listed (Ran (event.Act a) answer ∷ part) known paid m store reading valid held clear (mid, (none, step, polled)) =
-        (mid, (none, (step, finds_listed part known paid mid store reading (step_is_valid m (event.Act a) answer mid valid step) (λ p t is. elim (held p t is) [ inl listed ↦ inl listed | inr kept ↦ inr (event_kept t m (event.Act a) answer mid valid kept step (ap (is_turn_of t) step.0)) ]) clear polled)))
-    finds_listed (Ran (event.Clock n) answer ∷ part) known paid m store reading valid held clear (mid, (step, polled)) =
-        (mid, (step, finds_listed part known paid mid store reading (step_is_valid m (event.Clock n) answer mid valid step) (λ p t is. elim (held p t is) [ inl listed ↦ inl listed | inr kept ↦ inr (event_kept t m (event.Clock n) answer mid valid kept step (no_turn_of_clock t m n answer mid step)) ]) clear polled))
-    finds_listed (Ran (event.Remote u) answer ∷ part) known paid m store reading valid held clear (mid, (step, polled)) =
-        (mid, (step, finds_listed part known paid mid store reading (step_is_valid m (event.Remote u) answer mid valid step) (λ p t is. elim (held p t is) [ inl listed ↦ inl listed | inr kept ↦ inr (event_kept t m (event.Remote u) answer mid valid kept step (ap (is_turn_of t) step.0 ∙ no_turn_of_remote t u m)) ]) clear polled))
-    finds_listed (Ran event.Drain answer ∷ part) known paid m store reading valid held clear (mid, (step, polled)) =
-        (mid, (step, finds_listed part known paid mid store reading (step_is_valid m event.Drain answer mid valid step) (λ p t is. elim (held p t is) [ inl listed ↦ inl listed | inr kept ↦ inr (event_kept t m event.Drain answer mid valid kept step (ap (is_turn_of t) step.0)) ]) clear polled))
+    finds_listed (Ran (event.Act a) answer ∷ part) known paid m store reading held clear (mid, (none, step, polled)) =
+        (mid, (none, (step, finds_listed part known paid mid store reading (λ p t is. held_on p t m (event.Act a) answer mid store (held p t is) step (ap (is_turn_of t) step.0)) clear polled)))
+    finds_listed (Ran (event.Clock n) answer ∷ part) known paid m store reading held clear (mid, (step, polled)) =
+        (mid, (step, finds_listed part known paid mid store reading (λ p t is. held_on p t m (event.Clock n) answer mid store (held p t is) step (no_turn_of_clock t m n answer mid step)) clear polled))
+    finds_listed (Ran (event.Remote u) answer ∷ part) known paid m store reading held clear (mid, (step, polled)) =
+        (mid, (step, finds_listed part known paid mid store reading (λ p t is. held_on p t m (event.Remote u) answer mid store (held p t is) step (ap (is_turn_of t) step.0 ∙ no_turn_of_remote t u m)) clear polled))
+    finds_listed (Ran event.Drain answer ∷ part) known paid m store reading held clear (mid, (step, polled)) =
+        (mid, (step, finds_listed part known paid mid store reading (λ p t is. held_on p t m event.Drain answer mid store (held p t is) step (ap (is_turn_of t) step.0)) clear polled))
 
     parks_listed : (store left : Store F W) (old new : Machine) (part rest : List Entry) → PollingBy number sharing future has_timers lasts store left old part new rest → ParksListed number sharing future has_timers lasts store left old part new rest
-    parks_listed store left old new part rest polling valid polled reading = finds_listed part (λ p t. ⊥) ⊥ old store reading valid (λ p t is. absurd is) (λ is. absurd is) (polling polled reading)
+    parks_listed store left old new part rest polling polled reading = finds_listed part (λ p t. ⊥) ⊥ old store reading (λ p t is. absurd is) (λ is. absurd is) (polling polled reading)
 
     pub does_listed : (store left : Store F W) (c d : Parts O (Seen P)) (j k : Journal) → Does number (PollingBy number sharing future has_timers lasts store left) c d j k → Does number (ParksListed number sharing future has_timers lasts store left) c d j k
     does_listed store left c d j k p = does_more number (PollingBy number sharing future has_timers lasts store left) (ParksListed number sharing future has_timers lasts store left) c d j k (λ m new xs zs stm stn is. parks_listed store left m new xs zs is) p

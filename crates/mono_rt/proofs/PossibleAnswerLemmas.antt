@@ -18,7 +18,7 @@ use Rattle.mono_time.specs.declared.instant.Instant.{Instant}
 use Rattle.mono_machine.specs.declared.events.End.{End}
 use Rattle.mono_machine.specs.Machine.{Machine}
 use Rattle.mono_rt.specs.Record.{Record}
-use Rattle.mono_rt.specs.Refinement.{hosting_of, Matches}
+use Rattle.mono_rt.specs.Refinement.{hosting_of, MatchesValid}
 use Rattle.mono_rt.proofs.NumberLemmas.{next_numbered}
 use Rattle.mono_rt.specs.Reaches.{ReachesSharing, IsAligned}
 use Rattle.mono_rt.specs.PartTurns.{BeginsParts, EndsParts}
@@ -45,8 +45,8 @@ module _ {F O P U W J A V : Type 0} where
   aligned_same c d tasks items h = ap length items ∙ h ∙ sym (ap (λ s. next_number s.table) tasks)
 
   -- a new runtime has no task and no future
-  pub aligned_new : (number : O → ℕ) (c : Cx F O P U W J A V) (m : Machine) → Matches number hosting_of c.parts m → next_number m.tasks.table ≡ 0 → c.futures.items ≡ [] → IsAligned c
-  aligned_new number c m st none items = ap length items ∙ sym none ∙ sym (ap (λ x. next_number x.table) st.tasks) ∙ next_numbered number c.parts.tasks.tasks
+  pub aligned_new : (number : O → ℕ) (c : Cx F O P U W J A V) (m : Machine) → MatchesValid number hosting_of c.parts m → next_number m.tasks.table ≡ 0 → c.futures.items ≡ [] → IsAligned c
+  aligned_new number c m st none items = ap length items ∙ sym none ∙ sym (ap (λ x. next_number x.table) st.matches.tasks) ∙ next_numbered number c.parts.tasks.tasks
 
 -- a fact of a result by two others
 pub ok_by : {A E : Type 0} (P Q R : A → Type 0) (r : Result A E) → ((x : A) → P x → Q x → R x) → IfOk r P → IfOk r Q → IfOk r R

@@ -34,14 +34,14 @@ use Rattle.mono_rt.proofs.NumberLemmas.{numbered-all_woken}
 use Rattle.mono_rt.proofs.CallLemmas.{other_tasks}
 use Rattle.mono_rt.proofs.DrainLemmas.{remotes_numbered, listed_numbered, drained_is, drained_follow}
 use Rattle.mono_blocking.specs.JobSpawns.{Seen}
-use Rattle.mono_rt.specs.Refinement.{hosting_of, Matches}
-use Rattle.mono_rt.specs.Journals.{Did, Does, Stays, IsStep, IsReading}
+use Rattle.mono_rt.specs.Refinement.{hosting_of, Matches, MatchesValid}
+use Rattle.mono_rt.specs.Journals.{Follows, Did, Does, Stays, IsStep, IsReading}
 use Rattle.mono_rt.specs.declared.parts.state.Parts.{Parts}
 use Rattle.mono_rt.specs.declared.parts.journals.Entry.{Entry}
 use Rattle.mono_rt.specs.declared.parts.journals.Journal.{Journal}
 use Rattle.mono_time.specs.Timers.{registered_of}
 use Rattle.mono_rt.proofs.RegistrationLemmas.{registers_on, drained_registers}
-use Rattle.mono_rt.proofs.JournalLemmas.{follows_on, does_stay}
+use Rattle.mono_rt.proofs.JournalLemmas.{follows_on, follows_valid, does_stay}
 
 abbrev pub Relation : Type 1
 Relation = Machine → List Entry → Machine → List Entry → Type 0
@@ -113,7 +113,7 @@ module _ {O P : Type 0} (number : O → ℕ) where
             matches = second.went.matches;
           };
           is = λ rest. subst (λ zs. T m zs second.went.new rest) (sym (append_assoc xs ys rest))
-              (law m first.went.new second.went.new (xs ++ (ys ++ rest)) (ys ++ rest) rest st first.went.matches second.went.matches (first.is (ys ++ rest)) (second.is rest));
+              (law m first.went.new second.went.new (xs ++ (ys ++ rest)) (ys ++ rest) rest st.matches first.went.matches.matches second.went.matches.matches (first.is (ys ++ rest)) (second.is rest));
         };
   }
 
@@ -124,7 +124,7 @@ module _ {O P : Type 0} (number : O → ℕ) where
   does_more R T c d j k law p = record {
     did = λ m st.
         let first : Did number R c d j k m = p.did m st in
-        record { went = first.went; is = λ rest. law m first.went.new (first.went.part ++ rest) rest st first.went.matches (first.is rest) };
+        record { went = first.went; is = λ rest. law m first.went.new (first.went.part ++ rest) rest st.matches first.went.matches.matches (first.is rest) };
   }
 
   -- if nothing was done before, or after
@@ -141,21 +141,25 @@ module _ {O P : Type 0} (number : O → ℕ) where
       → d.tasks ≡ schedule.with_tasks c.tasks (all_woken c.tasks.tasks woken) → d.timers ≡ c.timers → d.has_timers ≡ c.has_timers → d.blocking ≡ c.blocking → Does number (DrainsAll ts) c d j l
   does_drain c d j k l ts woken once told are grew tasks timers has blocking = record {
     did = λ m st.
-        let before : remotes c.tasks.tasks ts ≡ remotes m.tasks ts = sym (remotes_numbered number c.tasks.tasks ts) ∙ ap (λ x. remotes x ts) st.tasks in
-        let mine : woken ≡ listed m.tasks ts = are ∙ sym (listed_numbered number c.tasks.tasks ts) ∙ ap (λ x. listed x ts) st.tasks in
+        let before : remotes c.tasks.tasks ts ≡ remotes m.tasks ts = sym (remotes_numbered number c.tasks.tasks ts) ∙ ap (λ x. remotes x ts) st.matches.tasks in
+        let mine : woken ≡ listed m.tasks ts = are ∙ sym (listed_numbered number c.tasks.tasks ts) ∙ ap (λ x. listed x ts) st.matches.tasks in
         let new : Machine = with_tasks m (all_woken m.tasks (listed m.tasks ts)) in
         let part : List Entry = remotes m.tasks ts ++ drain_of (listed m.tasks ts) ∷ [] in
-        let drained : (rest : List Entry) → DrainsAll ts m (remotes m.tasks ts ++ drain_of (listed m.tasks ts) ∷ rest) new rest = λ rest. drained_is ts m rest st.inbox once in
+        let drained : (rest : List Entry) → DrainsAll ts m (remotes m.tasks ts ++ drain_of (listed m.tasks ts) ∷ rest) new rest = λ rest. drained_is ts m rest st.matches.inbox once in
+        let follows : Follows m part new = drained_follow m new new part [] (drained []).0 refl in
         record {
           went = record {
             part = part;
             new = new;
             grew = grew ∙ ap (λ xs. xs ++ drain_of woken ∷ []) (told ∙ ap (λ xs. j.history.entries ++ xs) before)
                 ∙ append_assoc j.history.entries (remotes m.tasks ts) (drain_of woken ∷ []) ∙ ap (λ x. j.history.entries ++ (remotes m.tasks ts ++ drain_of x ∷ [])) mine;
-            follows = drained_follow m new new part [] (drained []).0 refl;
+            follows = follows;
             registers = drained_registers m new new (registered_of c.timers) (registered_of d.timers) part [] (drained []).0 (refl, λ s. ap (λ x. registered_of x s) timers);
-            matches = other_tasks number hosting_of c d m (all_woken m.tasks (listed m.tasks ts)) st
-                (ap (λ x. numbered number x.tasks) tasks ∙ numbered-all_woken number c.tasks.tasks woken ∙ ap (λ x. all_woken x woken) st.tasks ∙ ap (all_woken m.tasks) mine) timers has blocking;
+            matches = record {
+              matches = other_tasks number hosting_of c d m (all_woken m.tasks (listed m.tasks ts)) st.matches
+                  (ap (λ x. numbered number x.tasks) tasks ∙ numbered-all_woken number c.tasks.tasks woken ∙ ap (λ x. all_woken x woken) st.matches.tasks ∙ ap (all_woken m.tasks) mine) timers has blocking;
+              valid = follows_valid m new part st.valid follows;
+            };
           };
           is = λ rest. subst (λ xs. DrainsAll ts m xs new rest) (sym (append_assoc (remotes m.tasks ts) (drain_of (listed m.tasks ts) ∷ []) rest)) (drained rest);
         };
@@ -396,7 +400,7 @@ module _ {O P : Type 0} (number : O → ℕ) where
   blocks_refused error.Driver h units c d j k stays p = absurd p
 
   -- the entries after an empty history are in the relation
-  pub relation_of : (R : Relation) (c d : Parts O (Seen P)) (j k l : Journal) (m : Machine) → Matches number hosting_of c m → j.history.entries ≡ [] → l ≡ k → Does number R c d j k → (new : Machine) × R m l.history.entries new []
+  pub relation_of : (R : Relation) (c d : Parts O (Seen P)) (j k l : Journal) (m : Machine) → MatchesValid number hosting_of c m → j.history.entries ≡ [] → l ≡ k → Does number R c d j k → (new : Machine) × R m l.history.entries new []
   relation_of R c d j k l m st empty same does =
       let did = does.did m st in
       let part : did.went.part ++ [] ≡ l.history.entries = append-nil did.went.part ∙ sym (ap (λ x. x.history.entries) same ∙ did.went.grew ∙ ap (λ xs. xs ++ did.went.part) empty) in

@@ -12,7 +12,7 @@ use Rattle.mono_rt.specs.Numbering.{answer_numbered}
 use Rattle.mono_rt.specs.Rounds.{Blocked}
 use Rattle.mono_rt.specs.Stores.{Store, first_store}
 use Rattle.mono_rt.specs.FuturePolls.{OnMain, PollsMain, OnLack, StillPollsMain}
-use Rattle.mono_rt.specs.Refinement.{hosting_of, Matches}
+use Rattle.mono_rt.specs.Refinement.{hosting_of, MatchesValid}
 use Rattle.mono_rt.specs.DriverReadings.{Told, going, TellingSo, IsTold}
 use Rattle.mono_rt.specs.declared.contexts.Cx.{Cx}
 use Rattle.mono_rt.specs.declared.parts.errors.RunError.{RunError}
@@ -31,7 +31,7 @@ pub same_start : {P : Type 0} (l k : Limits) (p q : BlockingHandle P) → l ≡ 
 same_start l k p q limits pool = ap (λ x. start_machine x (strategy_of p)) limits ∙ ap (λ x. start_machine k (strategy_of x)) pool
 
 -- The entries after an empty history are in the relation, and their parks are those of the wheel, if no sleep was registered.
-parks_of : {O P : Type 0} (number : O → ℕ) (R : Relation) (c d : Parts O (Seen P)) (j k : Journal) (m : Machine) → Matches number hosting_of c m → j.history.entries ≡ [] → ((s : ℕ) → registered_of c.timers s ≡ None) → Does number R c d j k
+parks_of : {O P : Type 0} (number : O → ℕ) (R : Relation) (c d : Parts O (Seen P)) (j k : Journal) (m : Machine) → MatchesValid number hosting_of c m → j.history.entries ≡ [] → ((s : ℕ) → registered_of c.timers s ≡ None) → Does number R c d j k
     → (new : Machine) × (R m k.history.entries new [] × Registers None m (λ s. None) k.history.entries new (registered_of d.timers))
 parks_of number R c d j k m st empty none does =
     let did = does.did m st in
@@ -59,7 +59,7 @@ module _ {F O P U W J A V : Type 0} (number : O → ℕ) (sharing : SharedOf W) 
   }
 
   pub runs_from : (g h : Bool) (turns : ℕ) (main : F) (w : W) (fs gs : Store F W) (answer : Result O RunError) (m n : Machine) (s t u : Told) (c d : Parts O (Seen P)) (j k : Journal) → g ≡ h → m ≡ n → s ≡ t → fs ≡ first_store w
-      → Matches number hosting_of c m → j.history.entries ≡ [] → ((x : ℕ) → registered_of c.timers x ≡ None)
+      → MatchesValid number hosting_of c m → j.history.entries ≡ [] → ((x : ℕ) → registered_of c.timers x ≡ None)
       → Does number (Blocked g turns (answer_numbered number answer)) c d j k → TellingSo answer s j k u → OnMain answer (Does number (PollsMain number sharing future g main fs gs) c d j k) → OnLack answer (Does number (StillPollsMain number sharing future g main fs gs) c d j k) → RunsFrom number sharing future h turns main answer n w t
   runs_from g h turns main w fs gs answer m n s t u c d j k timers machine told none st empty unregistered does tells polls still =
       let b = parks_of number (Blocked g turns (answer_numbered number answer)) c d j k m st empty unregistered does in

@@ -24,7 +24,7 @@ use Rattle.mono_machine.specs.declared.events.Report.TheVariants as report
 use Rattle.mono_machine.specs.declared.events.Blocking.{Blocking}
 use Rattle.mono_machine.specs.declared.events.Blocking.TheVariants as blocking
 use Rattle.mono_blocking.specs.JobSpawns.{Seen, strategy_of}
-use Rattle.mono_rt.specs.Refinement.{hosting_of, Matches}
+use Rattle.mono_rt.specs.Refinement.{hosting_of, MatchesValid}
 use Rattle.mono_rt.specs.Journals.{Follows, Went, Goes, Does}
 use Rattle.mono_rt.specs.declared.parts.state.Parts.{Parts}
 use Rattle.mono_rt.specs.declared.parts.journals.Entry.{Entry}
@@ -114,7 +114,7 @@ module _ (s : Blocking) where
 module _ {O P : Type 0} (number : O → ℕ) where
   -- so the pool's strategy stays in each call that goes along
   pub same_strategy : (R : Machine → List Entry → Machine → List Entry → Type 0) (c d : Parts O (Seen P)) (j k : Journal) → Does number R c d j k
-      → (m : Machine) → Matches number hosting_of c m → strategy_of d.blocking.pool ≡ strategy_of c.blocking.pool
+      → (m : Machine) → MatchesValid number hosting_of c m → strategy_of d.blocking.pool ≡ strategy_of c.blocking.pool
   same_strategy R c d j k does m st =
       let went : Went number c d j k m = (does.did m st).went in
-      went.matches.strategy ∙ followed m.strategy m went.new went.part refl went.follows ∙ sym st.strategy
+      went.matches.matches.strategy ∙ followed m.strategy m went.new went.part refl went.follows ∙ sym st.matches.strategy

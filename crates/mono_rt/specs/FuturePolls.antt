@@ -17,7 +17,7 @@ use Rattle.mono_model.specs.declared.Ended.{Ended}
 use Rattle.mono_rt.specs.Record.{no_acts}
 use Rattle.mono_rt.specs.Journals.{Stays}
 use Rattle.mono_rt.specs.Rounds.{IsSpawn}
-use Rattle.mono_rt.specs.Refinement.{hosting_of, Matches}
+use Rattle.mono_rt.specs.Refinement.{hosting_of, MatchesValid}
 use Rattle.mono_rt.specs.Stores.{Store, with_future}
 use Rattle.mono_rt.specs.Turns.{Turn}
 use Rattle.mono_rt.specs.declared.contexts.Cx.{Cx}
@@ -42,8 +42,8 @@ HasLasted false has_run_out = ⊤
 
 module _ {F O P U W J A V : Type 0} (number : O → ℕ) (sharing : SharedOf W) (future : FutureOf F (Cx F O P U W J A V) O) (has_timers : Bool) where
   module _ (lasts : Bool) where
-    -- A turn of the history, at this reading of the clock. The context before it refines the machine, and has these
-    -- futures and this shared value; the context after it has those that are left. The entry has each act of the turn. If
+    -- A turn of the history, at this reading of the clock. The context before it refines the machine, which is valid, and has
+    -- these futures and this shared value; the context after it has those that are left. The entry has each act of the turn. If
     -- `lasts` is true, no call of it ran out of memory.
     pub record TellsTurnBy (m : Machine) (store : Store F W) (reading : ℕ) (steps : List TurnStep) (e : End) (answer : Report) (left : Store F W) : Type 0 where
       pub task : ℕ
@@ -54,7 +54,7 @@ module _ {F O P U W J A V : Type 0} (number : O → ℕ) (sharing : SharedOf W) 
       pub is_unread : Bool
       pub turn : Turn number sharing future task now (no_acts is_unread) e ended before after
       pub reads : nanos_of now ≡ reading
-      pub stands : Matches number hosting_of before.parts m
+      pub stands : MatchesValid number hosting_of before.parts m
       pub timers : before.parts.has_timers ≡ has_timers
       pub had : before.futures.items ≡ store.futures
       pub has : after.futures.items ≡ left.futures

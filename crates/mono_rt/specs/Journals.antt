@@ -9,7 +9,7 @@ use Rattle.mono_machine.specs.Steps.{Step}
 use Rattle.mono_machine.specs.declared.events.Event.{Event}
 use Rattle.mono_machine.specs.declared.events.Report.{Report}
 use Rattle.mono_blocking.specs.JobSpawns.{Seen}
-use Rattle.mono_rt.specs.Refinement.{hosting_of, Matches}
+use Rattle.mono_rt.specs.Refinement.{hosting_of, MatchesValid}
 use Rattle.mono_rt.specs.HeldRoom.{HasRoomFor}
 use Rattle.mono_rt.specs.declared.parts.state.Parts.{Parts}
 use Rattle.mono_rt.specs.declared.parts.journals.Entry.{Entry}
@@ -60,10 +60,10 @@ pub record Went {O P : Type 0} (number : O → ℕ) (c d : Parts O (Seen P)) (j 
   pub grew : k.history.entries ≡ j.history.entries ++ part
   pub follows : Follows old part new
   pub registers : Registers None old (registered_of c.timers) part new (registered_of d.timers)
-  pub matches : Matches number hosting_of d new
+  pub matches : MatchesValid number hosting_of d new
 
 pub record Goes {O P : Type 0} (number : O → ℕ) (c d : Parts O (Seen P)) (j k : Journal) : Type 0 where
-  pub went : (old : Machine) → Matches number hosting_of c old → Went number c d j k old
+  pub went : (old : Machine) → MatchesValid number hosting_of c old → Went number c d j k old
 
 -- The same, and the new entries are in a relation: between the machine before, with these and any entries after them,
 -- and the machine after, with the latter.
@@ -72,7 +72,7 @@ pub record Did {O P : Type 0} (number : O → ℕ) (R : Machine → List Entry �
   pub is : (rest : List Entry) → R old (went.part ++ rest) went.new rest
 
 pub record Does {O P : Type 0} (number : O → ℕ) (R : Machine → List Entry → Machine → List Entry → Type 0) (c d : Parts O (Seen P)) (j k : Journal) : Type 0 where
-  pub did : (old : Machine) → Matches number hosting_of c old → Did number R c d j k old
+  pub did : (old : Machine) → MatchesValid number hosting_of c old → Did number R c d j k old
 
 -- some entries, which lead from the one machine to the other
 abbrev pub Led : Machine → List Entry → Machine → List Entry → Type 0

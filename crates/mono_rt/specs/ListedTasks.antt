@@ -3,7 +3,7 @@ use Rattle.std.specs.Prelude.{⊤, ◌≡◌, ℕ, Bool, true, false, List, [], 
 use Rattle.mono_model.specs.Table.{value_at}
 use Rattle.mono_model.specs.declared.Ended.{Ended}
 use Rattle.mono_task.specs.Members.{FutureOf, SharedOf}
-use Rattle.mono_machine.specs.Machine.{Machine, IsValid}
+use Rattle.mono_machine.specs.Machine.{Machine}
 use Rattle.mono_machine.specs.Steps.{Step, has_finished}
 use Rattle.mono_machine.specs.History.{is_turn_of}
 use Rattle.mono_machine.specs.declared.events.Event.TheVariants as event
@@ -57,11 +57,11 @@ module _ {F O P U W J A V : Type 0} (number : O → ℕ) (sharing : SharedOf W) 
     FindsListed known paid m store reading (Ran (event.Remote t) answer ∷ part) = (mid : Machine) × (Step m (event.Remote t) answer mid × FindsListed known paid mid store reading part)
     FindsListed known paid m store reading (Ran event.Drain answer ∷ part) = (mid : Machine) × (Step m event.Drain answer mid × FindsListed known paid mid store reading part)
 
-    -- The same for a part of a history that begins in a valid machine and leaves this store, if all turns after it are
-    -- polls. Of no task is it known first that it is listed.
+    -- The same for a part of a history that leaves this store, if all turns after it are polls. Of no task is it known
+    -- first that it is listed.
     abbrev pub ParksListed : Store F W → Store F W → Machine → List Entry → Machine → List Entry → Type 0
     ParksListed store left old part new rest =
-        IsValid old → ((reading : ℕ) → PolledBy number sharing future has_timers lasts new left reading rest) → (reading : ℕ) → FindsListed (λ p t. ⊥) ⊥ old store reading part
+        ((reading : ℕ) → PolledBy number sharing future has_timers lasts new left reading rest) → (reading : ℕ) → FindsListed (λ p t. ⊥) ⊥ old store reading part
 
     -- The same after the main task was made with its future last.
     abbrev pub ParksListedMain : F → Store F W → Store F W → Machine → List Entry → Machine → List Entry → Type 0

@@ -4,7 +4,7 @@ use Rattle.mono_model.specs.Jobs.{Jobs}
 use Rattle.mono_time.specs.Sleeps.{IsNoneArmedUpTo}
 use Rattle.mono_time.specs.Refinement.{StandsForSleeps}
 use Rattle.mono_time.specs.Timers.{sleeps_of, elapsed_tick}
-use Rattle.mono_machine.specs.Machine.{Machine}
+use Rattle.mono_machine.specs.Machine.{Machine, IsValid}
 use Rattle.mono_machine.specs.declared.events.Blocking.{Blocking}
 use Rattle.mono_blocking.specs.JobSpawns.{Seen, strategy_of}
 use Rattle.mono_rt.specs.Numbering.{numbered}
@@ -30,3 +30,8 @@ pub record Matches {O B : Type 0} (number : O → ℕ) (hosting : B → Hosting)
   pub inbox : m.inbox ≡ []
   pub jobs : (hosting parts.blocking).jobs ≡ m.jobs
   pub strategy : (hosting parts.blocking).strategy ≡ m.strategy
+
+-- Between two turns: the parts are those of the machine, and the machine is valid.
+pub record MatchesValid {O B : Type 0} (number : O → ℕ) (hosting : B → Hosting) (parts : Parts O B) (m : Machine) : Type 0 where
+  pub matches : Matches number hosting parts m
+  pub valid : IsValid m

@@ -2,9 +2,8 @@
 use Rattle.std.specs.Prelude.{◌≡◌, ℕ, true, []}
 use Rattle.mono_machine.specs.Machine.{Machine}
 use Rattle.mono_blocking.specs.JobSpawns.{strategy_of}
-use Rattle.mono_rt.specs.Refinement.{hosting_of, Matches}
 use Rattle.mono_rt.specs.EndedTasks.{all_in, ListsEnded}
-use Rattle.mono_rt.specs.Views.{Grows, ended_tasks}
+use Rattle.mono_rt.specs.Views.{Refines, Grows, ended_tasks}
 use Rattle.mono_rt.specs.declared.contexts.Cx.{Cx}
 use Rattle.mono_rt.specs.declared.runtimes.Runtime.{Runtime}
 
@@ -15,7 +14,7 @@ module _ {F O D P W U J A V : Type 0} where
 
   -- The strategy for blocking jobs is as before, if the runtime refined a machine. So a pool that was attached still is.
   abbrev pub KeepsStrategy : (O → ℕ) → Runtime F O D P W U J A V → Runtime F O D P W U J A V → Type 0
-  KeepsStrategy number old new = (m : Machine) → Matches number hosting_of old.cx.parts m → strategy_of new.cx.parts.blocking.pool ≡ strategy_of old.cx.parts.blocking.pool
+  KeepsStrategy number old new = (m : Machine) → Refines number old m → strategy_of new.cx.parts.blocking.pool ≡ strategy_of old.cx.parts.blocking.pool
 
   -- Each task that ended was made unknown to the inbox, in order: those that had ended before, and those whose turns ended
   -- ready among the entries by which the history grew. None waits for it.

@@ -28,7 +28,7 @@ use Rattle.mono_rt.specs.Rounds.{Blocked}
 use Rattle.mono_rt.specs.TurnCounts.{CountsTurns}
 use Rattle.mono_rt.specs.Numbering.{answer_numbered}
 use Rattle.mono_rt.specs.declared.task_waits.TaskWait.{TaskWait}
-use Rattle.mono_rt.specs.Refinement.{hosting_of, Matches}
+use Rattle.mono_rt.specs.Refinement.{hosting_of, MatchesValid}
 use Rattle.mono_rt.specs.Journals.{Does, Registers, events_in, reports_in}
 use Rattle.mono_rt.specs.JournalRoom.{Fills}
 use Rattle.mono_rt.specs.Stores.{Store, first_store, store_of}
@@ -135,9 +135,9 @@ module _ {F O D P W U J A V : Type 0} where
   abbrev pub is_at_limit : Runtime F O D P W U J A V → Bool
   is_at_limit r = is_full r.cx.parts.tasks.tasks.table r.cx.parts.tasks.tasks.limit
 
-  -- The runtime refines this machine.
+  -- The runtime refines this machine, which is valid.
   abbrev pub Refines : (O → ℕ) → Runtime F O D P W U J A V → Machine → Type 0
-  Refines number r m = Matches number hosting_of r.cx.parts m
+  Refines number r m = MatchesValid number hosting_of r.cx.parts m
 
   -- The history grew by entries in this relation, from each machine that the runtime refined.
   abbrev pub Grows : (O → ℕ) → (Machine → List Entry → Machine → List Entry → Type 0) → Runtime F O D P W U J A V → Runtime F O D P W U J A V → Type 0

@@ -1,10 +1,8 @@
 // How a runtime is set up and made.
 ghost use Rattle.std.specs.Prelude.{⊤, ◌≡◌, ◌^◌, ℕ, max, Bool, true, false, not, None, [], IfOk, IfErr, IfSome, IfNone};
-ghost use Rattle.mono_machine.specs.Machine.{start_machine};
 ghost use Rattle.mono_time.specs.Instants.{nanos_of};
 ghost use Rattle.mono_time.specs.Timers.{registered_of};
 ghost use Rattle.mono_blocking.specs.JobSpawns.{strategy_of, IsApart};
-ghost use Rattle.mono_rt.specs.Refinement.{hosting_of, Matches};
 ghost use Rattle.mono_rt.specs.Reaches.{sharing_nothing};
 ghost use Rattle.mono_rt.specs.Starts.{RunsFrom};
 ghost use Rattle.mono_rt.specs.Pollable.{SpawnsPollable};
@@ -238,7 +236,7 @@ impl<D: Driver, P: ThreadPool + Drop> RuntimeBuilder<D, P> {
     ) -> Result<Runtime<F, O, D, P, W>, AllocFailed<W>>
         ensures shared { IfOk result (λ made. made.cx.shared ≡ shared) }
         ensures back { IfErr result (λ failed. failed.value ≡ shared) }
-        ensures stands { IfOk result (λ made. Matches O.output_number hosting_of made.cx.parts (start_machine self.limits (strategy_of self.pool))) }
+        ensures stands { IfOk result (λ made. RefinesStart O.output_number self.limits (strategy_of self.pool) made) }
         ensures timers { IfOk result (λ made. made.cx.parts.has_timers ≡ has_timers) }
         ensures pool { IfOk result (λ made. made.cx.parts.blocking.pool ≡ self.pool) }
         ensures driver { IfOk result (λ made. made.driver ≡ self.driver) }

@@ -19,7 +19,7 @@ use Rattle.mono_rt.specs.FuturePolls.{PollsMain, OnMain}
 use Rattle.mono_rt.specs.Reaches.{sharing_nothing}
 use Rattle.mono_rt.specs.Stores.{Store, first_store}
 use Rattle.mono_rt.specs.Journals.{Does}
-use Rattle.mono_rt.specs.Refinement.{hosting_of, Matches}
+use Rattle.mono_rt.specs.Refinement.{hosting_of, MatchesValid}
 use Rattle.mono_rt.specs.declared.parts.state.Parts.{Parts}
 use Rattle.mono_blocking.specs.JobSpawns.{Seen}
 use Rattle.mono_rt.proofs.FuturePollLemmas.{on_main}
@@ -127,7 +127,7 @@ pub driven_does : {P U J A V Q : Type 0} (future : FutureOf ScriptTask (Cx Scrip
     → (cancels : (f : ScriptTask) (x y : Cx ScriptTask ℕ P U ⊤ J A V) → future.cancels f x y → y ≡ x)
     → (e : RunEnd) (s : Script) (turns : ℕ) (answer : Result ℕ RunError) (l : Journal)
     → OnMain answer (Does (λ n. n) (PollsMain (λ n. n) sharing_nothing future h main had left) c d j k)
-    → h ≡ true → had ≡ first_store tt → Matches (λ n. n) hosting_of c (start_machine s.limits strategy.Attached) → j.history.entries ≡ [] → l ≡ k
+    → h ≡ true → had ≡ first_store tt → MatchesValid (λ n. n) hosting_of c (start_machine s.limits strategy.Attached) → j.history.entries ≡ [] → l ≡ k
     → answer ≡ answer_of e → main ≡ new_task main 0 → main.kinds.now ≡ s.kinds → IsSound (length s.kinds) s
     → ((new : Machine) × Blocked true turns (answer_numbered (λ n. n) answer) (start_machine s.limits strategy.Attached) l.history.entries new []) → Driven s (map told l.history.entries)
 driven_does future h main had left c d j k unspent polls cancels e s turns answer l does timers none stands empty same is first kinds sound blocked =

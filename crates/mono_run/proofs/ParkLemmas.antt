@@ -3,7 +3,7 @@ use Rattle.std.proofs.Common.{◌≡◌, ℕ, List, [], ◌++◌, Option, None, 
 use Rattle.mono_time.specs.Timers.{registered_of}
 use Rattle.mono_machine.specs.Machine.{Machine}
 use Rattle.mono_blocking.specs.JobSpawns.{Seen}
-use Rattle.mono_rt.specs.Refinement.{hosting_of, Matches}
+use Rattle.mono_rt.specs.Refinement.{hosting_of, MatchesValid}
 use Rattle.mono_rt.specs.Journals.{Does, Registers}
 use Rattle.mono_rt.specs.declared.parts.state.Parts.{Parts}
 use Rattle.mono_rt.specs.declared.parts.journals.Entry.{Entry}
@@ -14,7 +14,7 @@ use Rattle.mono_run.specs.RunRecord.{ParksSo}
 -- The entries after an empty history are in the relation, and if no sleep was registered, the parks are those of the
 -- wheel.
 pub parked_of : {O P : Type 0} (number : O → ℕ) (R : Machine → List Entry → Machine → List Entry → Type 0) (c d : Parts O (Seen P)) (j k l : Journal) (m : Machine)
-    → Matches number hosting_of c m → j.history.entries ≡ [] → l ≡ k → ((s : ℕ) → registered_of c.timers s ≡ None) → Does number R c d j k
+    → MatchesValid number hosting_of c m → j.history.entries ≡ [] → l ≡ k → ((s : ℕ) → registered_of c.timers s ≡ None) → Does number R c d j k
     → (new : Machine) × (R m l.history.entries new [] × ParksSo m l.history.entries new)
 parked_of number R c d j k l m st empty same none does =
     let did = does.did m st in

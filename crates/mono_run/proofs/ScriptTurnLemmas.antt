@@ -384,7 +384,7 @@ module _ {P U J A V : Type 0} (future : FutureOf ScriptTask (Cx ScriptTask ℕ P
         ours = one;
         gave = by_future kinds t reading steps replies e tells.ended fs gs f (future.is_spent f) tells.turn.begun tells.after tells.is_unread (unspent f) one below (begins.futures ∙ ap (λ xs. slice_set xs t None) tells.had) tells.has
             begins.parts.acts_are begins.parts.me (ap nanos_of begins.parts.now_is ∙ tells.reads) (begins.parts.has_timers ∙ tells.timers)
-            (after_begin t first.behind m, begun_matches (λ n. n) tells.before.parts tells.turn.begun.parts t tells.now (no_acts tells.is_unread) m first.behind begins.parts first.queue_is tells.stands)
+            (after_begin t first.behind m, begun_matches (λ n. n) tells.before.parts tells.turn.begun.parts t tells.now (no_acts tells.is_unread) m first.behind begins.parts first.queue_is tells.stands.matches)
             tells.memory tells.acts refl (subst (λ v. Runs (λ n. n) sharing_nothing future v t e tells.ended tells.turn.begun tells.after) (ap (λ xs. value_at xs t) tells.had ∙ found.1) tells.turn.runs);
         count = ap (λ x. next_number x.tasks.table) went ∙ counts;
         over = λ o done. subst (λ x. IsOver t x.tasks) (sym went) (finished_at t o steps e m first.behind given done);

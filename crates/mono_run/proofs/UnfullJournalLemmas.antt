@@ -8,7 +8,7 @@ use Rattle.mono_model.specs.Table.{value_at}
 use Rattle.mono_task.specs.Members.{FutureOf}
 use Rattle.mono_machine.specs.Machine.{Machine}
 use Rattle.mono_machine.specs.declared.events.End.{End}
-use Rattle.mono_rt.specs.Refinement.{hosting_of, Matches}
+use Rattle.mono_rt.specs.Refinement.{hosting_of, Matches, MatchesValid}
 use Rattle.mono_rt.specs.Reaches.{sharing_nothing}
 use Rattle.mono_rt.specs.Turns.{AfterPoll, Polls, UnlessSpent, Runs}
 use Rattle.mono_rt.specs.JournalRoom.{LongTurn, Fills}
@@ -52,7 +52,7 @@ module _ {P U J A V : Type 0} (future : FutureOf ScriptTask (Cx ScriptTask ℕ P
         ap (λ r. length r.steps) long.turn.begins.parts.acts_are,
       )
 
-  pub never_full : (c : Cx ScriptTask ℕ P U ⊤ J A V) (j k : Journal) (m : Machine) → Matches (λ n. n) hosting_of c.parts m → j.is_full ≡ false → Fills (λ n. n) sharing_nothing future c j k → k.is_full ≡ false
+  pub never_full : (c : Cx ScriptTask ℕ P U ⊤ J A V) (j k : Journal) (m : Machine) → MatchesValid (λ n. n) hosting_of c.parts m → j.is_full ≡ false → Fills (λ n. n) sharing_nothing future c j k → k.is_full ≡ false
   never_full c j k m st unfull fills = by k.is_full refl
     where
       by : (b : Bool) → k.is_full ≡ b → k.is_full ≡ false
@@ -61,5 +61,5 @@ module _ {P U J A V : Type 0} (future : FutureOf ScriptTask (Cx ScriptTask ℕ P
         | inl full ↦ true-false (sym full ∙ unfull)
         | inr filled ↦
             let went = filled.went.went m st in
-            no_long_turn filled.before filled.after went.new went.matches filled.long
+            no_long_turn filled.before filled.after went.new went.matches.matches filled.long
       ])

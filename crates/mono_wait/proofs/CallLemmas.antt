@@ -2,16 +2,11 @@
 use Rattle.std.proofs.Common.{◌≡◌, ℕ, Bool, false, List, [], ◌++◌, subst, append-nil}
 use Rattle.std.specs.Prelude.{⊤}
 use Rattle.mono_task.specs.Members.{FutureOf, SharedOf}
-use Rattle.mono_machine.specs.Machine.{Machine, IsValid}
+use Rattle.mono_machine.specs.Machine.{Machine}
 use Rattle.mono_machine.specs.Watches.{Source}
-use Rattle.mono_machine.specs.declared.events.Act.TheVariants as act
-use Rattle.mono_machine.specs.declared.events.Event.TheVariants as event
-use Rattle.mono_machine.specs.declared.events.Reply.TheVariants as reply
 use Rattle.mono_machine.specs.declared.events.TurnStep.{TurnStep}
 use Rattle.mono_machine.specs.declared.events.End.TheVariants as end
 use Rattle.mono_machine.specs.declared.events.Report.{Report}
-use Rattle.mono_machine.specs.declared.events.Report.TheVariants as report
-use Rattle.mono_machine.proofs.ValidStepLemmas.{step_is_valid}
 use Rattle.mono_rt.specs.Stores.{Store, with_future}
 use Rattle.mono_rt.specs.FuturePolls.{TellsTurn, PollsMain}
 use Rattle.mono_rt.specs.declared.contexts.Cx.{Cx}
@@ -23,9 +18,9 @@ use Rattle.mono_wait.proofs.ParkLemmas.{waiting}
 module _ {F O P U W J A V : Type 0} (number : O → ℕ) (sharing : SharedOf W) (future : FutureOf F (Cx F O P U W J A V) O) (needs : F → Source → Type 0) (has_timers : Bool)
     (leaves : (m : Machine) (store : Store F W) (reading : ℕ) (steps : List TurnStep) (answer : Report) (left : Store F W)
     → TellsTurn number sharing future has_timers m store reading steps end.Pending answer left → LeavesWaiting (λ f. future.is_spent f ≡ false) needs m store.futures left.futures steps answer) where
-  pub call_waits : (first : F) (store left : Store F W) (old new : Machine) (part : List Entry) → IsValid old → ((rest : List Entry) → PollsMain number sharing future has_timers first store left old (part ++ rest) new rest)
+  pub call_waits : (first : F) (store left : Store F W) (old new : Machine) (part : List Entry) → ((rest : List Entry) → PollsMain number sharing future has_timers first store left old (part ++ rest) new rest)
       → WaitsInCall number sharing future needs has_timers first store old part
-  call_waits first store left old new part valid polls =
+  call_waits first store left old new part polls =
       by_parts (subst (λ xs. PollsMain number sharing future has_timers first store left old xs new []) (append-nil part) (polls []))
     where
       by_parts : PollsMain number sharing future has_timers first store left old part new [] → WaitsInCall number sharing future needs has_timers first store old part
@@ -36,5 +31,5 @@ module _ {F O P U W J A V : Type 0} (number : O → ℕ) (sharing : SharedOf W) 
         spawn = spawn;
         waits = λ reading u x.
             waiting number sharing future needs has_timers leaves u x more ⊥ mid (with_future store first) reading
-            (step_is_valid old (event.Act act.Spawn) (report.Reply (reply.Task t)) mid valid spawn.1) (λ none. absurd none) (polling (λ n. tt) reading);
+            (λ none. absurd none) (polling (λ n. tt) reading);
       }

@@ -50,9 +50,9 @@ module _ {F O P U W J A V : Type 0} (number : O → ℕ) (sharing : SharedOf W) 
   task_of u answer w is told = sym (ap (is_turn_of t) is) ∙ told
 
   -- a turn of t after which its future needs x
-  own_turn : (m mid : Machine) (store left : Store F W) (reading : ℕ) (steps : List TurnStep) (answer : Report) → IsValid m → Step m (event.Turn steps end.Pending) answer mid
+  own_turn : (m mid : Machine) (store left : Store F W) (reading : ℕ) (steps : List TurnStep) (answer : Report) → Step m (event.Turn steps end.Pending) answer mid
       → LeavesWaiting (λ f. future.is_spent f ≡ false) needs m store.futures left.futures steps answer → is_turn_of t answer ≡ true → NeedsAfter number sharing future needs has_timers t x store left steps end.Pending → IsHeld mid t x
-  own_turn m mid store left reading steps answer valid step w told n = elim (eqb_tells w.task t) [
+  own_turn m mid store left reading steps answer step w told n = elim (eqb_tells w.task t) [
     | inl here ↦ by_task here.1
     | inr apart ↦ absurd (false-true (sym apart.0 ∙ task_of w.task answer (report.Turn w.task w.replies w.ended) w.told told))
   ]
@@ -62,37 +62,51 @@ module _ {F O P U W J A V : Type 0} (number : O → ℕ) (sharing : SharedOf W) 
           let found : (g : F) × (value_at left.futures w.task ≡ Some g) × ((y : Source) → needs g y → LeavesAt m w.task steps answer y) = w.waits n.f (ap (value_at store.futures) same ∙ n.before) n.unspent in
           let is_g : n.g ≡ found.0 = same_value n.g found.0 (sym n.after ∙ ap (value_at left.futures) (sym same) ∙ found.1) in
           let at : LeavesAt m w.task steps answer x = found.2 x (subst (λ g. needs g x) is_g n.needed) in
-          awaiting_held mid t x (subst (λ u. IsWatched mid u x ⊎ (is_awaiting u mid ≡ true)) same (at.stays mid valid step (no_drop_after x at.before at.since (ap (drops_in x) (sym at.acts) ∙ n.kept))))
+          awaiting_held mid t x (subst (λ u. IsWatched mid u x ⊎ (is_awaiting u mid ≡ true)) same (at.stays mid step (no_drop_after x at.before at.since (ap (drops_in x) (sym at.acts) ∙ n.kept))))
 
-  turn_holds : (e : End) (b : Bool) (owed : Type 0) (m mid : Machine) (store left : Store F W) (reading : ℕ) (steps : List TurnStep) (answer : Report) → is_turn_of t answer ≡ b → IsValid m → (owed → IsHeld m t x)
-      → Step m (event.Turn steps e) answer mid → TellsTurn number sharing future has_timers m store reading steps e answer left → AfterTurn number sharing future needs has_timers t x b owed store left steps e answer → IsHeld mid t x
-  turn_holds e false owed m mid store left reading steps answer told valid held step turn next = held_stays m (event.Turn steps e) answer mid t x valid step (held next.0) next.1 next.2
-  turn_holds e true owed m mid store left reading steps answer told valid held step turn next =
-      own_turn m mid store left reading steps answer valid (subst (λ y. Step m (event.Turn steps y) answer mid) next.is_pending step)
-      (leaves m store reading steps answer left (subst (λ y. TellsTurn number sharing future has_timers m store reading steps y answer left) next.is_pending turn)) told
-      (subst (λ y. NeedsAfter number sharing future needs has_timers t x store left steps y) next.is_pending next)
+  -- the machine is valid, and the task is held in it
+  pub record HoldsValid (m : Machine) : Type 0 where
+    pub valid : IsValid m
+    pub held : IsHeld m t x
 
-  pub waiting : (part : List Entry) (owed : Type 0) (m : Machine) (store : Store F W) (reading : ℕ) → IsValid m → (owed → IsHeld m t x) → Polled number sharing future has_timers m store reading part → Waiting number sharing future needs has_timers t x owed m store reading part
-  waiting [] owed m store reading valid held polled = tt
-  waiting (Now n ∷ part) owed m store reading valid held polled = waiting part owed m store n valid held polled
-  waiting (Park wait ∷ part) owed m store reading valid held (at_rest, polled) = (λ o unfinished. held_waits m t x valid (held o) unfinished, waiting part owed m store reading valid held polled)
-  waiting (Ran (event.Turn steps e) answer ∷ part) owed m store reading valid held (mid, (left, (step, turn, polled))) = (
+  holds_on : (m : Machine) (e : Event) (answer : Report) (mid : Machine) → Step m e answer mid → HoldsValid m → is_turn_of t answer ≡ false → is_taken t x e answer ≡ false → HoldsValid mid
+  holds_on m e answer mid step was apart untaken = record { valid = step_is_valid m e answer mid was.valid step; held = held_stays m e answer mid t x was.valid step was.held apart untaken }
+
+  waits_held : (m : Machine) → HoldsValid m → has_finished (value_at m.tasks.table t) ≡ false → IsWatched m t x ⊎ (is_awaiting t m ≡ true)
+  waits_held m was unfinished = held_waits m t x was.valid was.held unfinished
+
+  turn_holds : (e : End) (b : Bool) (owed : Type 0) (m mid : Machine) (store left : Store F W) (reading : ℕ) (steps : List TurnStep) (answer : Report) → is_turn_of t answer ≡ b → (owed → HoldsValid m)
+      → Step m (event.Turn steps e) answer mid → TellsTurn number sharing future has_timers m store reading steps e answer left → AfterTurn number sharing future needs has_timers t x b owed store left steps e answer → HoldsValid mid
+  turn_holds e false owed m mid store left reading steps answer told held step turn next = holds_on m (event.Turn steps e) answer mid step (held next.0) next.1 next.2
+  turn_holds e true owed m mid store left reading steps answer told held step turn next = record {
+    valid = step_is_valid m (event.Turn steps e) answer mid turn.stands.valid step;
+    held =
+        own_turn m mid store left reading steps answer (subst (λ y. Step m (event.Turn steps y) answer mid) next.is_pending step)
+        (leaves m store reading steps answer left (subst (λ y. TellsTurn number sharing future has_timers m store reading steps y answer left) next.is_pending turn)) told
+        (subst (λ y. NeedsAfter number sharing future needs has_timers t x store left steps y) next.is_pending next);
+  }
+
+  pub waiting : (part : List Entry) (owed : Type 0) (m : Machine) (store : Store F W) (reading : ℕ) → (owed → HoldsValid m) → Polled number sharing future has_timers m store reading part → Waiting number sharing future needs has_timers t x owed m store reading part
+  waiting [] owed m store reading held polled = tt
+  waiting (Now n ∷ part) owed m store reading held polled = waiting part owed m store n held polled
+  waiting (Park wait ∷ part) owed m store reading held (at_rest, polled) = (λ o unfinished. waits_held m (held o) unfinished, waiting part owed m store reading held polled)
+  waiting (Ran (event.Turn steps e) answer ∷ part) owed m store reading held (mid, (left, (step, turn, polled))) = (
     mid,
     (
       left,
       (
         step,
         turn,
-        waiting part (AfterTurn number sharing future needs has_timers t x (is_turn_of t answer) owed store left steps e answer) mid left reading (step_is_valid m (event.Turn steps e) answer mid valid step)
-            (turn_holds e (is_turn_of t answer) owed m mid store left reading steps answer refl valid held step turn) polled,
+        waiting part (AfterTurn number sharing future needs has_timers t x (is_turn_of t answer) owed store left steps e answer) mid left reading
+            (turn_holds e (is_turn_of t answer) owed m mid store left reading steps answer refl held step turn) polled,
       ),
     ),
   )
-  waiting (Ran (event.Act a) answer ∷ part) owed m store reading valid held (mid, (none, step, polled)) =
-      (mid, (none, step, waiting part (Untaken number sharing future needs has_timers t x owed (event.Act a) answer) mid store reading (step_is_valid m (event.Act a) answer mid valid step) (λ o. held_stays m (event.Act a) answer mid t x valid step (held o.0) o.1 o.2) polled))
-  waiting (Ran (event.Clock n) answer ∷ part) owed m store reading valid held (mid, (step, polled)) =
-      (mid, (step, waiting part (Untaken number sharing future needs has_timers t x owed (event.Clock n) answer) mid store reading (step_is_valid m (event.Clock n) answer mid valid step) (λ o. held_stays m (event.Clock n) answer mid t x valid step (held o.0) o.1 o.2) polled))
-  waiting (Ran (event.Remote u) answer ∷ part) owed m store reading valid held (mid, (step, polled)) =
-      (mid, (step, waiting part (Untaken number sharing future needs has_timers t x owed (event.Remote u) answer) mid store reading (step_is_valid m (event.Remote u) answer mid valid step) (λ o. held_stays m (event.Remote u) answer mid t x valid step (held o.0) o.1 o.2) polled))
-  waiting (Ran event.Drain answer ∷ part) owed m store reading valid held (mid, (step, polled)) =
-      (mid, (step, waiting part (Untaken number sharing future needs has_timers t x owed event.Drain answer) mid store reading (step_is_valid m event.Drain answer mid valid step) (λ o. held_stays m event.Drain answer mid t x valid step (held o.0) o.1 o.2) polled))
+  waiting (Ran (event.Act a) answer ∷ part) owed m store reading held (mid, (none, step, polled)) =
+      (mid, (none, step, waiting part (Untaken number sharing future needs has_timers t x owed (event.Act a) answer) mid store reading (λ o. holds_on m (event.Act a) answer mid step (held o.0) o.1 o.2) polled))
+  waiting (Ran (event.Clock n) answer ∷ part) owed m store reading held (mid, (step, polled)) =
+      (mid, (step, waiting part (Untaken number sharing future needs has_timers t x owed (event.Clock n) answer) mid store reading (λ o. holds_on m (event.Clock n) answer mid step (held o.0) o.1 o.2) polled))
+  waiting (Ran (event.Remote u) answer ∷ part) owed m store reading held (mid, (step, polled)) =
+      (mid, (step, waiting part (Untaken number sharing future needs has_timers t x owed (event.Remote u) answer) mid store reading (λ o. holds_on m (event.Remote u) answer mid step (held o.0) o.1 o.2) polled))
+  waiting (Ran event.Drain answer ∷ part) owed m store reading held (mid, (step, polled)) =
+      (mid, (step, waiting part (Untaken number sharing future needs has_timers t x owed event.Drain answer) mid store reading (λ o. holds_on m event.Drain answer mid step (held o.0) o.1 o.2) polled))

@@ -9,17 +9,13 @@ use Rattle.mono_model.specs.Table.{value_at}
 use Rattle.mono_model.specs.declared.Ended.{Ended}
 use Rattle.mono_model.specs.declared.poll.Poll.{Poll}
 use Rattle.mono_model.specs.declared.poll.Poll.TheVariants.{Ready, Pending}
-use Rattle.mono_machine.specs.Machine.{Machine, IsValid}
+use Rattle.mono_machine.specs.Machine.{Machine}
 use Rattle.mono_machine.specs.History.{is_turn_of}
-use Rattle.mono_machine.specs.declared.events.Act.TheVariants as act
 use Rattle.mono_machine.specs.declared.events.Event.TheVariants as event
 use Rattle.mono_machine.specs.declared.events.TurnStep.{TurnStep}
 use Rattle.mono_machine.specs.declared.events.End.{End}
 use Rattle.mono_machine.specs.declared.events.End.TheVariants as end
-use Rattle.mono_machine.specs.declared.events.Reply.TheVariants as reply
 use Rattle.mono_machine.specs.declared.events.Report.{Report}
-use Rattle.mono_machine.specs.declared.events.Report.TheVariants as report
-use Rattle.mono_machine.proofs.ValidStepLemmas.{step_is_valid}
 use Rattle.mono_rt.specs.Numbering.{end_of}
 use Rattle.mono_rt.specs.Reaches.{ReachesSharing}
 use Rattle.mono_rt.specs.Turns.{AfterPoll, Polls, UnlessSpent, Runs}
@@ -129,14 +125,14 @@ module _ {F O P U W J A V : Type 0} (number : O → ℕ) (sharing : SharedOf W) 
     stays_listed (Ran (event.Remote u) answer ∷ part) known paid owed m store reading goes (mid, (step, finds)) = (mid, (step, stays_listed part known paid owed mid store reading goes finds))
     stays_listed (Ran event.Drain answer ∷ part) known paid owed m store reading goes (mid, (step, finds)) = (mid, (step, stays_listed part known paid owed mid store reading goes finds))
 
-    pub polled_listed : (part : List Entry) (m : Machine) (store : Store F W) (reading : ℕ) → IsValid m → PolledBy number sharing future has_timers lasts m store reading part
+    pub polled_listed : (part : List Entry) (m : Machine) (store : Store F W) (reading : ℕ) → PolledBy number sharing future has_timers lasts m store reading part
         → StaysListed number sharing future waits_in has_timers lasts t p ⊥ m store reading part
-    polled_listed part m store reading valid polled =
-        stays_listed part (λ q u. ⊥) ⊥ ⊥ m store reading (λ none. none) (finds_listed number sharing future has_timers lasts part (λ q u. ⊥) ⊥ m store reading valid (λ q u none. absurd none) (λ none. absurd none) polled)
+    polled_listed part m store reading polled =
+        stays_listed part (λ q u. ⊥) ⊥ ⊥ m store reading (λ none. none) (finds_listed number sharing future has_timers lasts part (λ q u. ⊥) ⊥ m store reading (λ q u none. absurd none) (λ none. absurd none) polled)
 
-  pub call_listed : (has_timers lasts : Bool) (first : F) (store left : Store F W) (old new : Machine) (part : List Entry) → IsValid old
+  pub call_listed : (has_timers lasts : Bool) (first : F) (store left : Store F W) (old new : Machine) (part : List Entry)
       → ((rest : List Entry) → ParksListedMain number sharing future has_timers lasts first store left old (part ++ rest) new rest) → ListedInCall number sharing future waits_in has_timers lasts first store old part
-  call_listed has_timers lasts first store left old new part valid parks =
+  call_listed has_timers lasts first store left old new part parks =
       by_parts (subst (λ xs. ParksListedMain number sharing future has_timers lasts first store left old xs new []) (append-nil part) (parks []))
     where
       by_parts : ParksListedMain number sharing future has_timers lasts first store left old part new [] → ListedInCall number sharing future waits_in has_timers lasts first store old part
@@ -147,5 +143,5 @@ module _ {F O P U W J A V : Type 0} (number : O → ℕ) (sharing : SharedOf W) 
         spawn = spawn;
         listed = λ reading u p.
             stays_listed has_timers lasts u p more (λ q v. ⊥) ⊥ ⊥ mid (with_future store first) reading (λ none. none)
-            (finds (step_is_valid old (event.Act act.Spawn) (report.Reply (reply.Task t)) mid valid spawn.1) (λ n. tt) reading);
+            (finds (λ n. tt) reading);
       }

@@ -10,7 +10,7 @@ use Rattle.mono_model.specs.declared.poll.Poll.{Poll}
 use Rattle.mono_model.specs.declared.poll.Poll.TheVariants.{Ready, Pending}
 use Rattle.mono_task.specs.Members.{FutureOf, SharedOf}
 use Rattle.mono_task.specs.Work.{without_outputs}
-use Rattle.mono_machine.specs.Machine.{Machine, IsValid}
+use Rattle.mono_machine.specs.Machine.{Machine}
 use Rattle.mono_machine.specs.Turns.{after_steps, replies_of, after_begin, end_answer, turn_report_for}
 use Rattle.mono_machine.specs.Steps.{Step}
 use Rattle.mono_machine.specs.History.{begun_machine, is_awaiting}
@@ -119,13 +119,13 @@ module _ {F O P U W J A V : Type 0} (number : O → ℕ) (sharing : SharedOf W) 
             t.task it.moment (after_steps t.task b (begun_machine m.tasks.queue m)) x (it.before.parts.same_me ∙ me)
             (subst (λ q. Matches number hosting_of it.moment.parts (after_steps t.task b (begun_machine q m))) (sym queue)
             (subst (λ n. Matches number hosting_of it.moment.parts (after_steps n b (after_begin t.task rest m))) me
-            (it.before.parts.leads (after_begin t.task rest m) (begun_matches number t.before.parts t.turn.begun.parts t.task t.now (no_acts t.is_unread) m rest t.turn.begins.parts queue t.stands))))
+            (it.before.parts.leads (after_begin t.task rest m) (begun_matches number t.before.parts t.turn.begun.parts t.task t.now (no_acts t.is_unread) m rest t.turn.begins.parts queue t.stands.matches))))
             it.hears
 
-        stays : (new : Machine) → IsValid m → Step m (event.Turn steps end.Pending) answer new → drops_in x s ≡ false → IsWatched new t.task x ⊎ (is_awaiting t.task new ≡ true)
-        stays new valid step none =
+        stays : (new : Machine) → Step m (event.Turn steps end.Pending) answer new → drops_in x s ≡ false → IsWatched new t.task x ⊎ (is_awaiting t.task new ≡ true)
+        stays new step none =
             let queue : (rest : List ℕ) × (m.tasks.queue ≡ t.task ∷ rest) = turn_of_report t.task steps t.after.parts.acts.replies t.ended m m.tasks.queue (sym t.told ∙ step.0) in
-            law b s t.after.parts.acts.replies t.ended m new t.task x valid
+            law b s t.after.parts.acts.replies t.ended m new t.task x t.stands.valid
             (subst (λ ys. Step m (event.Turn ys end.Pending) (report.Turn t.task t.after.parts.acts.replies t.ended) new) acts (subst (λ r. Step m (event.Turn steps end.Pending) r new) t.told step))
             (hears queue.0 queue.1) none
 

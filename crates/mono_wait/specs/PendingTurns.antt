@@ -25,7 +25,7 @@ pub record LeavesAt (m : Machine) (t : ℕ) (steps : List TurnStep) (answer : Re
   pub before : List TurnStep
   pub since : List TurnStep
   pub acts : steps ≡ before ++ since
-  pub stays : (new : Machine) → IsValid m → Step m (event.Turn steps end.Pending) answer new → drops_in x since ≡ false → IsWatched new t x ⊎ (is_awaiting t new ≡ true)
+  pub stays : (new : Machine) → Step m (event.Turn steps end.Pending) answer new → drops_in x since ≡ false → IsWatched new t x ⊎ (is_awaiting t new ≡ true)
 
 -- A turn that ended pending, from the task's future f, leaves a future g, and the above holds for each source that g
 -- needs.

@@ -1,7 +1,7 @@
 //! The effects of a pending poll and of a pending turn on their task in the machine, as functions that do nothing.
 ghost use Rattle.std.specs.Prelude.{◌≡◌, ℕ, Bool, true, false, List, ◌++◌, Some};
 ghost use Rattle.mono_model.specs.declared.poll.Poll.{Poll};
-ghost use Rattle.mono_machine.specs.Machine.{Machine, IsValid};
+ghost use Rattle.mono_machine.specs.Machine.{Machine};
 ghost use Rattle.mono_machine.specs.Watches as machine;
 ghost use Rattle.mono_machine.specs.declared.events.TurnStep.{TurnStep};
 ghost use Rattle.mono_machine.specs.declared.events.End.TheVariants as end;
@@ -68,7 +68,7 @@ where
     P: ThreadPool + Drop,
     U: Unpark,
     W: SharedState + Drop,
-    ensures { (has_timers : Bool) (part : List Entry) (m : Machine) (store : Store F W) (reading t : ℕ) (x : machine.Source) → IsValid m
+    ensures { (has_timers : Bool) (part : List Entry) (m : Machine) (store : Store F W) (reading t : ℕ) (x : machine.Source)
         → Polled O.output_number W.SharedState F.TaskFuture has_timers m store reading part
         → Waiting O.output_number W.SharedState F.TaskFuture (machine_needs F.needs) has_timers t x ⊥ m store reading part }
 {
@@ -86,7 +86,7 @@ where
     P: ThreadPool + Drop,
     U: Unpark,
     W: SharedState + Drop,
-    ensures { (has_timers : Bool) (first : F) (store left : Store F W) (old new : Machine) (part : List Entry) → IsValid old
+    ensures { (has_timers : Bool) (first : F) (store left : Store F W) (old new : Machine) (part : List Entry)
         → ((rest : List Entry) → PollsMain O.output_number W.SharedState F.TaskFuture has_timers first store left old (part ++ rest) new rest)
         → WaitsInCall O.output_number W.SharedState F.TaskFuture (machine_needs F.needs) has_timers first store old part }
 {
@@ -103,7 +103,7 @@ where
     P: ThreadPool + Drop,
     U: Unpark,
     W: SharedState + Drop,
-    ensures { (has_timers lasts : Bool) (part : List Entry) (m : Machine) (store : Store F W) (reading t : ℕ) (p : List ℕ) → IsValid m
+    ensures { (has_timers lasts : Bool) (part : List Entry) (m : Machine) (store : Store F W) (reading t : ℕ) (p : List ℕ)
         → PolledBy O.output_number W.SharedState F.TaskFuture has_timers lasts m store reading part
         → StaysListed O.output_number W.SharedState F.TaskFuture F.waits_in has_timers lasts t p ⊥ m store reading part }
 {}
@@ -118,7 +118,7 @@ where
     P: ThreadPool + Drop,
     U: Unpark,
     W: SharedState + Drop,
-    ensures { (has_timers lasts : Bool) (first : F) (store left : Store F W) (old new : Machine) (part : List Entry) → IsValid old
+    ensures { (has_timers lasts : Bool) (first : F) (store left : Store F W) (old new : Machine) (part : List Entry)
         → ((rest : List Entry) → ParksListedMain O.output_number W.SharedState F.TaskFuture has_timers lasts first store left old (part ++ rest) new rest)
         → ListedInCall O.output_number W.SharedState F.TaskFuture F.waits_in has_timers lasts first store old part }
 {}

@@ -2,5 +2,5 @@ use Rattle.mono_wait.proofs.PlaceLemmas.{call_listed}
 use Rattle.mono_wait.proofs.laws.each_park_of_a_call_finds_its_tasks_listed.Goals as goal
 
 pub returns : goal.returns
-returns g c = λ has_timers lasts first store left old new part valid parks.
-    call_listed g.O.Outcome.output_number g.W.SharedState g.F.TaskFuture g.F.WaitsIn.waits_in (λ f cx h d polls q is. g.met.F.WaitsIn.listed f cx h d polls q is) has_timers lasts first store left old new part valid parks
+returns g c = λ has_timers lasts first store left old new part parks.
+    call_listed g.O.Outcome.output_number g.W.SharedState g.F.TaskFuture g.F.WaitsIn.waits_in (λ f cx h d polls q is. g.met.F.WaitsIn.listed f cx h d polls q is) has_timers lasts first store left old new part parks

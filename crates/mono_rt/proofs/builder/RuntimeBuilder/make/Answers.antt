@@ -1,7 +1,9 @@
+use Rattle.mono_blocking.specs.JobSpawns.{strategy_of}
+use Rattle.mono_machine.proofs.ValidStepLemmas.{start_is_valid}
 use Rattle.mono_rt.proofs.builder.RuntimeBuilder.make.Goals as goal
 
 pub returns-clause-stands : goal.returns-clause-stands
-returns-clause-stands g c = c.in-Ok-starting.ensures.stands
+returns-clause-stands g c = record { matches = c.in-Ok-starting.ensures.stands; valid = start_is_valid c.args.self.limits (strategy_of c.args.self.pool) }
 
 pub returns-clause-pool : goal.returns-clause-pool
 returns-clause-pool g c = c.in-Ok-starting.ensures.pool
