@@ -18,3 +18,4 @@ pub mod RaceLists
 pub mod LazySpawns
 pub mod Bodies
 pub mod Intervals
+pub mod Spent
