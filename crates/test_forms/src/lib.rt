@@ -11,11 +11,15 @@ mod contexts;
 #[cfg(test)]
 mod counts;
 #[cfg(test)]
+mod handles;
+#[cfg(test)]
 mod jobs;
 #[cfg(test)]
 mod joins;
 #[cfg(test)]
 mod logs;
+#[cfg(test)]
+mod races;
 #[cfg(test)]
 mod sequences;
 #[cfg(test)]

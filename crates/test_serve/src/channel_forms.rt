@@ -1,6 +1,6 @@
 // Forms on the futures of channels and semaphores, as main tasks of built runtimes.
-use mono_combine::{SelectList, Start};
-use mono_forms::{FutureExt, ready};
+use mono_combine::{Join2, SelectList, Start, TryJoin2};
+use mono_forms::{FutureExt, Pending, pending, race, ready};
 use mono_rt::{
     Cx, Host, NoPool, NoUnpark, Outcome, RunError, RuntimeBuilder, SharedState, StepDriver,
     TaskFuture, TimeDriver,
@@ -85,4 +85,69 @@ fn a_select_of_three(rt: HostRuntime) {
     if let Some(answer) = run(&rt, alloc, Channel::new(alloc, 1), task) {
         assert_eq!(rt; answer, Ok(7));
     }
+}
+
+/// The channel of a test as the whole shared value.
+type One = Only<Channel<u64>>;
+
+/// The answer of a receive.
+type Received = Result<Option<u64>, AllocError>;
+
+/// The answer of a send.
+type Sent = Result<(), SendError<u64>>;
+
+/// Returns the message if it was sent and received.
+fn message_of_join(both: (Received, Sent)) -> u64 {
+    if both.1.is_ok() {
+        message_of(both.0)
+    } else {
+        0
+    }
+}
+
+fn refused_recv(_: AllocError) -> u64 {
+    1
+}
+
+fn refused_send(_: SendError<u64>) -> u64 {
+    1
+}
+
+/// Returns the message if both parts succeeded.
+fn message_of_try(both: Result<(Option<u64>, ()), u64>) -> u64 {
+    match both {
+        Ok((Some(message), ())) => message,
+        _ => 0,
+    }
+}
+
+fn forever(_: Sent) -> Pending<u64> {
+    pending()
+}
+
+/// Returns the answer, or 7 if out of memory.
+fn or_seven(answer: Option<Result<u64, RunError>>) -> Result<u64, RunError> {
+    answer.unwrap_or(Ok(7))
+}
+
+fn recv() -> mpsc::Recv<One, u64> {
+    mpsc::Recv::new()
+}
+
+fn send() -> Send<One, u64> {
+    Send::new(7)
+}
+
+/// A join, a try and a race over both ends: the message that the second part sends wakes the first, which waits for it.
+#[test]
+fn forms_over_both_ends(rt: HostRuntime) {
+    let alloc = rt.alloc();
+    let join = Join2::new(recv(), send()).map(message_of_join);
+    let both = TryJoin2::new(recv().map_err(refused_recv), send().map_err(refused_send));
+    let first = race(recv().map(message_of), send().then(forever));
+    let joined = run(&rt, alloc, Channel::new(alloc, 1), join);
+    let tried = run(&rt, alloc, Channel::new(alloc, 1), both.map(message_of_try));
+    let raced = run(&rt, alloc, Channel::new(alloc, 1), first);
+    let (joined, tried, raced) = (or_seven(joined), or_seven(tried), or_seven(raced));
+    assert_eq!(rt; [joined, tried, raced], [Ok(7), Ok(7), Ok(7)]);
 }

@@ -20,6 +20,10 @@ returns-in-Ok-clause-machine g c = λ m st.
     (had_room c.spawn.result c.in-Ok.t _ c.in-Ok.is c.spawn.ensures.full.1) c.in-Ok.ensures.number c.in-Ok.ensures.after refl refl refl in
     (left.0 ∙ ap reply.Task (sym c.of_task.ensures), left.1)
 
+pub returns-then-has_no_place-clause-machine : goal.returns-then-has_no_place-clause-machine
+returns-then-has_no_place-clause-machine g c = λ m st.
+    full_stands g.O.Outcome.output_number c.args.self.now.cx.parts _ m st (sym c.has_no_place.ensures ∙ c.if-has_no_place.true) refl refl refl refl
+
 pub returns-in-Err-AtCapacity-clause-machine : goal.returns-in-Err-AtCapacity-clause-machine
 returns-in-Err-AtCapacity-clause-machine g c = λ m st.
     full_stands g.O.Outcome.output_number c.args.self.now.cx.parts _ m st
