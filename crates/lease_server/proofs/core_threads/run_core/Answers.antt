@@ -4,6 +4,9 @@ use Rattle.lease_server.specs.Stations.{Leads, leads_itself}
 use Rattle.lease_server.proofs.ServedLemmas.{has_run}
 use Rattle.lease_server.proofs.core_threads.run_core.Goals as goal
 
+pub returns-in-Ok-clause-led : goal.returns-in-Ok-clause-led
+returns-in-Ok-clause-led g c = subst (λ s. Leads c.args.station s) (sym c.into_shared.ensures) c.in-Ok.ensures.led
+
 pub returns-in-Ok-clause-ran : goal.returns-in-Ok-clause-ran
 returns-in-Ok-clause-ran g c = λ new.
     let first = c.args.station in
