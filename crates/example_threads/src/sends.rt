@@ -1,5 +1,6 @@
 //! A loop that sends over a channel between threads, on a runtime of its own.
-ghost use Rattle.std.specs.Prelude.{◌≡◌, ◌≤◌, IfSome};
+ghost use Rattle.std.specs.Prelude.{◌≡◌, ◌≤◌, Some, IfSome};
+ghost use Rattle.mono_channel.specs.Spent.{sends_by};
 ghost use Rattle.mono_forms.specs.LoopRules.{Keeps};
 ghost use Rattle.example_threads.specs.Channels.{IsSenderAfter, left_after};
 
@@ -39,11 +40,16 @@ pub fn send_all<R: Host + Copy>(
     requires { 1 ≤ count }
     ensures { IfSome result (λ done. IsSenderAfter sender count done.value done.number) }
 {
-    let task = repeat((sender, count), |(sender, left): (Tx, u64)| {
-        sender.into_send(rt, left).map(move |sent: (Tx, Result<(), SendError<u64>>)| after(
-            left, sent,
-        ))
-    });
+    let task = repeat(
+        (sender, count),
+        move |(sender, left): (Tx, u64)|
+            ensures { (into : _) × (sends_by into ≡ Some (sender, left)) × (result.inner ≡ Some (into, record { 0 = left })) }
+        {
+            sender.into_send(rt, left).map(move |sent: (Tx, Result<(), SendError<u64>>)| after(
+                left, sent,
+            ))
+        },
+    );
     let driver = ThreadDriver::new(alloc, SystemClock::new(rt)).ok()?;
     match start::<_, _, _, NoPool, R>(&rt, alloc, driver, task, u64::MAX) {
         Err(_) => None,
