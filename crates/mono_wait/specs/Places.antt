@@ -1,5 +1,5 @@
 -- The place of a shared value at which a future waits.
-use Rattle.std.specs.Prelude.{◌≡◌, ◌==◌, ◌||◌, ℕ, ⊤, Bool, true, false, List, [], ◌∷◌, ◌++◌, Option, Some}
+use Rattle.std.specs.Prelude.{◌≡◌, ◌==◌, ◌||◌, ℕ, zero, suc, ⊤, Bool, true, false, List, [], ◌∷◌, ◌++◌, Option, Some}
 use Rattle.std.specs.List.{list_any}
 use Rattle.std.proofs.Common.{inl, sym, ap, ◌∙◌, subst, refl, eq-eqb}
 use Rattle.mono_model.specs.Tasks.{Tasks}
@@ -21,6 +21,14 @@ module _ {X : Type 0} (task_of : X → ℕ) (task : ℕ) where
 -- Its ticket in a line of a part of the value, once it has one.
 abbrev pub PlaceNeeds : List ℕ → List ℕ → Option ℕ → Source → Type 0
 PlaceNeeds part line ticket x = (k : ℕ) × (ticket ≡ Some k) × (x ≡ of_place (part ++ (line ++ k ∷ [])))
+
+-- Its ticket among the senders of a channel.
+abbrev pub SenderNeeds : List ℕ → Option ℕ → Source → Type 0
+SenderNeeds part = PlaceNeeds part (zero ∷ [])
+
+-- Its ticket among the receivers of a channel.
+abbrev pub ReceiverNeeds : List ℕ → Option ℕ → Source → Type 0
+ReceiverNeeds part = PlaceNeeds part (suc zero ∷ [])
 
 same_some : (i j : ℕ) → Some i ≡ Some j → i ≡ j
 same_some i j e = cc
