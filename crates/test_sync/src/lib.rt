@@ -1,5 +1,5 @@
-//! Tests of channels, semaphores, notices, watched values, locks and tokens, over their public calls: of values alone, and in
-//! turns of tasks without a runtime.
+//! Tests of channels, semaphores, notices, watched values and locks, over their public calls: of values alone, and in turns
+//! of tasks without a runtime.
 #![tactic(auto)]
 
 #[cfg(test)]
@@ -24,8 +24,6 @@ mod several;
 mod tallies;
 #[cfg(test)]
 mod tickets;
-#[cfg(test)]
-mod tokens;
 #[cfg(test)]
 mod turns;
 #[cfg(test)]

@@ -2,12 +2,14 @@ use Rattle.std.proofs.Common.{◌≡◌, ◌≢◌, ◌+◌, ◌⊎◌, inl, inr
 use mathlib.Core.Logic.{dite}
 use native.Mathlib.Decide.{ℕ_discrete}
 use Rattle.mono_channel.specs.Delivery.{all_shares}
-use Rattle.mono_channel.specs.Ends.{shares_of}
+use Rattle.mono_channel.specs.Ends.{Ends, shares_of, IsPair}
 use Rattle.lease_server.specs.Dispatch.{Holds, KeepsWays}
 use Rattle.lease_server.specs.Intakes.{Fits}
 use Rattle.lease_server.specs.Threads.{ArePaired}
+use Rattle.lease_server.specs.declared.texts.Text.{Text}
 use Rattle.lease_server.specs.declared.dispatchers.Dispatcher.{Dispatcher}
 use Rattle.lease_server.proofs.RoutedLemmas.{failed_start, paired, routes_all, routes_none, shares_after}
+use Rattle.lease_server.proofs.ThreadLemmas.{pairs_by}
 use Rattle.lease_server.proofs.servers.route_all.Goals as goal
 
 pub returns-clause-paired : goal.returns-clause-paired
@@ -18,7 +20,9 @@ returns-clause-paired g c =
     let last : Dispatcher = c.route_if-ended.result.1.splitter.dispatcher in
     let closed : Dispatcher = c.close.new.self.splitter.dispatcher in
     let ways : KeepsWays first last = subst (λ d. KeepsWays d last) c.new-intake.ensures.dispatcher c.route_if-ended.ensures.led.1 in
-    let started : ArePaired texts ts first.lanes.items = subst (λ e. ArePaired e ts first.lanes.items) c.new-dispatcher.ensures.texts c.start_cores-started.ensures.paired in
+    let own : Ends Text = c.new-dispatcher.result.refusals.outlet.sender in
+    let same : IsPair texts own = sym (ap (λ (e : Ends Text). e.channel) c.new-dispatcher.ensures.texts) in
+    let started : ArePaired texts ts first.lanes.items = pairs_by own texts ts first.lanes.items same c.start_cores-started.ensures.paired in
     subst (λ (d : Dispatcher). ArePaired texts ts d.lanes.items) (sym c.into_parts-source.ensures.1) (paired texts ts first last closed ways c.close.ensures.lanes started)
 
 pub returns-clause-routed : goal.returns-clause-routed

@@ -1,11 +1,15 @@
 use Rattle.std.proofs.Common.{rules, ◌≡◌, true, refl, ap, sym, subst, ◌∙◌}
 use Rattle.std.specs.Global.{Vec}
 use Rattle.lease_server.specs.Threads.{ArePaired, HaveAnswered, HaveBegun}
+use Rattle.lease_server.specs.declared.texts.Text.{Text}
 use Rattle.lease_server.specs.declared.lanes.Lane.{Lane}
 use Rattle.lease_server.specs.declared.refusals.Refusals.{Refusals}
-use Rattle.mono_channel.specs.Ends.{closed}
+use Rattle.mono_channel.specs.Ends.{Ends, closed}
 use Rattle.lease_server.proofs.ThreadLemmas.{collects, pairs_by, settles}
 use Rattle.lease_server.proofs.servers.settle_all.Goals as goal
+
+pub settle-requires : goal.settle-requires
+settle-requires g c = ap (λ (e : Ends Text). e.channel) (c.into_sender.ensures ∙ ap (λ (r : Refusals). r.outlet.sender) c.into_parts-lanes.ensures.1) ∙ c.requires.same
 
 pub settle_cores-is_done-requires : goal.settle_cores-is_done-requires
 settle_cores-is_done-requires g c =

@@ -1,7 +1,12 @@
-use Rattle.std.proofs.Common.{rules, ◌≡◌, true, ap, ◌∙◌, ◌+◌, ◌++◌, ◌∷◌, []}
-use Rattle.mono_channel.specs.Ends.{sent_by, settled_by, shares_of}
+use Rattle.std.proofs.Common.{rules, ◌≡◌, true, ap, sym, ◌∙◌, ◌+◌, ◌++◌, ◌∷◌, []}
+use Rattle.std.specs.Global.{Vec}
+use Rattle.mono_channel.specs.Ends.{Ends, sent_by, settled_by, shares_of}
+use Rattle.lease_core.specs.declared.requests.Request.{Request}
 use Rattle.lease_server.proofs.ThreadLemmas.{answered, has_begun}
 use Rattle.lease_server.proofs.servers.settle_core.Goals as goal
+
+pub settle-requires : goal.settle-requires
+settle-requires g c = ap (λ (e : Ends (Vec Request)). e.channel) c.into_sender.ensures ∙ (c.requires.way ∙ sym c.join-status.ensures.received.0)
 
 pub returns-clause-settled : goal.returns-clause-settled
 returns-clause-settled g c =

@@ -1,4 +1,5 @@
 use Rattle.std.proofs.Common.{◌++◌, ◌∷◌, [], inl, ap, ◌∙◌}
+use Rattle.mono_channel.specs.Ends.{sent_by}
 use Rattle.lease_server.proofs.ThreadLemmas.{adds}
 use Rattle.lease_server.proofs.starts.start_core.Goals as goal
 
@@ -16,3 +17,8 @@ returns-clause-started g c =
           texts.ensures.further.0 texts.ensures.further.1 texts.ensures.shares.0 texts.ensures.shares.1 c.requires
           c.in-Ok.ensures.refusals c.add.ensures.refusals (added.1 ∙ c.start_thread-thread.ensures.sender) (c.push_reserved.ensures.items ∙ ap (λ l. l ++ t ∷ []) c.reserve-2.ensures.items) (added.2 ∙ ap (λ l. l ++ added.0 ∷ []) (texts.ensures.lanes ∙ c.in-Ok.ensures.lanes)),
     )
+
+pub returns-clause-holds : goal.returns-clause-holds
+returns-clause-holds g c = λ h.
+    let none = ap (λ e. sent_by e) c.start_thread-thread.ensures.sender ∙ c.in-Ok-channel.ensures.sent in
+    c.add.ensures.holds none (c.in-Ok-texts.ensures.holds [] (c.in-Ok.ensures.holds [] h))
