@@ -182,9 +182,6 @@ module _ {C A B X Y E : Type 0} (w : Frame C) (a : FutureOf A C (Result X E)) (b
   abbrev ok_first : X → Option (Result X E)
   ok_first x = Some (Ok x)
 
-  abbrev done_first : X → MaybeDone A (Result X E)
-  done_first x = Done (Ok x)
-
   both_end : (x : X) (y : Result Y E) → Pending ≡ try_join_rule (both_results (ok_first x) (Some y)) → ⊥
   both_end x (Ok y) e = no_answer (Ok (inl x ∷ inr y ∷ [])) e
   both_end x (Err y) e = no_answer (Err y) e
@@ -206,7 +203,7 @@ module _ {C A B X Y E : Type 0} (w : Frame C) (a : FutureOf A C (Result X E)) (b
     where
       by_second : (s : MaybeDone B (Result Y E)) → MaybeCovers b w.number w.work w.reaches w.watcher q.needs m s d → Pending ≡ try_join_rule (both_results (ok_first x) (output_of s)) → Covered c d (Done (Ok x)) s
       by_second (Future g) two is = record {
-        one = one_after w c m d (q.needs g) (λ z. MaybeNeeds p.needs (done_first x) z ⊎ MaybeNeeds q.needs (Future g) z) (λ z is. inr is) reached two.one;
+        one = one_after w c m d (q.needs g) (λ z. MaybeNeeds {O = Result X E} p.needs (Done (Ok x)) z ⊎ MaybeNeeds {O = Result Y E} q.needs (Future g) z) (λ z is. inr is) reached two.one;
         each = λ z needed. elim needed [ inl none ↦ absurd none | inr right ↦ heard_after w c m d z reached (two.each z right) ];
       }
       by_second (Done y) two is = absurd (both_end x y is)
