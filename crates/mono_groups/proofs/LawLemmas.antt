@@ -113,18 +113,18 @@ or_right false x is = is
 both : (a b : Bool) → a ≡ true → b ≡ true → (a && b) ≡ true
 both a b p q = ap (λ c. c && b) p ∙ q
 
-last_waits : (ws : List Waiter) (w : Waiter) → waits_at (ws ++ w ∷ []) w.ticket w.task ≡ true
+pub last_waits : (ws : List Waiter) (w : Waiter) → waits_at (ws ++ w ∷ []) w.ticket w.task ≡ true
 last_waits [] w = or_left ((w.ticket == w.ticket) && (w.task == w.task)) false (both (w.ticket == w.ticket) (w.task == w.task) (eq-eqb w.ticket w.ticket refl) (eq-eqb w.task w.task refl))
 last_waits (v ∷ ws) w = or_right ((v.ticket == w.ticket) && (v.task == w.task)) _ (last_waits ws w)
 
-waits_if : (x y : Token) (k me : ℕ) (v : Bool) → MatchBool v ((◌≡◌ {A = Asked ⊤} asked.Waits (asked.Got tt)) × Leaves x.waiters (Some k) me y.waiters) (Stands {G = ⊤} x.waiters (Some k) me asked.Waits y.waiters) → listed_by y (k ∷ []) me ≡ true
+pub waits_if : (x y : Token) (k me : ℕ) (v : Bool) → MatchBool v ((◌≡◌ {A = Asked ⊤} asked.Waits (asked.Got tt)) × Leaves x.waiters (Some k) me y.waiters) (Stands {G = ⊤} x.waiters (Some k) me asked.Waits y.waiters) → listed_by y (k ∷ []) me ≡ true
 waits_if x y k me true s = absurd (waits-got s.0)
   where
     waits-got : ◌≡◌ {A = Asked ⊤} asked.Waits (asked.Got tt) → ⊥
     waits-got e = cc
 waits_if x y k me false s = ap (λ w. waits_at w.entries.items k me) s.1 ∙ s.0
 
-joined_if : (x y : Token) (ticket : Option ℕ) (k me : ℕ) (v : Bool) → MatchBool v ((◌≡◌ {A = Asked ⊤} (asked.Joined k) (asked.Got tt)) × Leaves x.waiters ticket me y.waiters) (Stands {G = ⊤} x.waiters ticket me (asked.Joined k) y.waiters) → listed_by y (k ∷ []) me ≡ true
+pub joined_if : (x y : Token) (ticket : Option ℕ) (k me : ℕ) (v : Bool) → MatchBool v ((◌≡◌ {A = Asked ⊤} (asked.Joined k) (asked.Got tt)) × Leaves x.waiters ticket me y.waiters) (Stands {G = ⊤} x.waiters ticket me (asked.Joined k) y.waiters) → listed_by y (k ∷ []) me ≡ true
 joined_if x y ticket k me true s = absurd (joined-got s.0)
   where
     joined-got : ◌≡◌ {A = Asked ⊤} (asked.Joined k) (asked.Got tt) → ⊥
@@ -157,7 +157,7 @@ gone_if : (k me : ℕ) (v : Bool) (w : Waiter) (ws : List Waiter) → ((w.ticket
 gone_if k me true w ws is rest = rest
 gone_if k me false w ws is rest = ap (λ b. b || waits_at (without ws k me) k me) is ∙ rest
 
-gone : (ws : List Waiter) (k me : ℕ) → waits_at (without ws k me) k me ≡ false
+pub gone : (ws : List Waiter) (k me : ℕ) → waits_at (without ws k me) k me ≡ false
 gone [] k me = refl
 gone (w ∷ ws) k me = gone_if k me ((w.ticket == k) && (w.task == me)) w ws refl (gone ws k me)
 

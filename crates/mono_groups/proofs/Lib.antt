@@ -6,3 +6,5 @@ mod CancelLemmas
 mod HandLemmas
 mod LawLemmas
 mod UntilLemmas
+mod SetLemmas
+mod SetLawLemmas

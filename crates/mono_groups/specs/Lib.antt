@@ -1,6 +1,12 @@
+pub mod Answers
+pub mod Gathered
+pub mod JoinSetLaws
+pub mod JoinSetRuns
+pub mod JoinSets
 pub mod Listed
 pub mod Nodes
 pub mod Polls
+pub mod SetListed
 pub mod TokenLaws
 pub mod Tokens
 pub mod Until

@@ -4,6 +4,9 @@
 ghost use Rattle.std.specs.Prelude.{◌≡◌, Some, None};
 ghost use Rattle.mono_groups.specs.Tokens.{Cancels, Makes, Removes};
 
+pub use crate::join_set_acts::{
+    AbortAllCall, EnterCall, TryJoinNextCall, abort_all, enter, try_join_next,
+};
 use crate::token_calls::cancel_part;
 use crate::tokens::{RemoveError, Tokens};
 use mono_sync::Holds;

@@ -1,9 +1,15 @@
-//! Tokens that cancel, and tasks that can be aborted, for the tasks of one runtime.
+//! Tokens that cancel, tasks that can be aborted, and sets of tasks, for the tasks of one runtime.
 #![tactic(auto)]
 
 pub mod acts;
+mod answers;
 mod asks;
+mod gathered;
+pub mod join_set;
+mod join_set_acts;
+mod join_set_calls;
 pub mod laws;
+mod members;
 mod nodes;
 mod token_calls;
 pub mod tokens;

@@ -8,3 +8,4 @@ pub mod LeaseLemmas
 pub mod LeaseLawLemmas
 pub mod MailWaits
 pub mod MailLemmas
+pub mod GivenLemmas

@@ -103,3 +103,11 @@ module _ {C : Type 0} (part : C → Leases) (number nanos : C → ℕ) (sleeps :
   KeeperPolls Waits c r s d = Keeps c r s d
   KeeperPolls (Sleeps sleep) c r s d = (middle : C) × SleepCancels sleeps work reaches sleep c middle × Keeps middle r s d
   KeeperPolls Over c r s d = ⊥
+
+  -- The answer is that of a poll of a keeper in some context.
+  pub record KeeperGives (answer : Result ⊤ KeeperError) : Type 0 where
+    pub phase : Phase
+    pub left : Phase
+    pub at : C
+    pub after : C
+    pub polled : KeeperPolls phase at (Ready answer) left after

@@ -60,3 +60,11 @@ module _ {C : Type 0} (part : C → Leases) (number nanos : C → ℕ) (work : C
   abbrev pub AcquirePolls : Option ℕ → ℕ → ℕ → C → Poll (Result ⊤ AcquireError) → Option ℕ → C → Type 0
   AcquirePolls None s key c r left d = AsksFor s key c r left d
   AcquirePolls (Some ticket) s key c r left d = LooksAgain ticket s key c r left d
+
+  -- The answer is that of a poll of a future that acquires the key for the session, in some context.
+  pub record AcquireGives (s key : ℕ) (answer : Result ⊤ AcquireError) : Type 0 where
+    pub ticket : Option ℕ
+    pub left : Option ℕ
+    pub at : C
+    pub after : C
+    pub polled : AcquirePolls ticket s key at (Ready answer) left after

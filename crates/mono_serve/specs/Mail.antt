@@ -49,6 +49,13 @@ module _ {M C : Type 0} (part : C → Mailboxes M) (number : C → ℕ) (work : 
     pub work_after : work d ≡ work c
     pub rest : AfterReceive answer r left
 
+  -- The answer is that of a poll of a future that receives a message to the actor, in some context.
+  pub record ReceiveGives (actor : ℕ) (answer : Result (ℕ × M) ActorError) : Type 0 where
+    pub ticket : Option ℕ
+    pub at : C
+    pub after : C
+    pub polled : ReceivePolls ticket actor at (Ready answer) None after
+
 -- A future that receives a message to the actor, and its delay of so many milliseconds. Neither was polled.
 pub record IsLimited {W M : Type 0} (actor ms : ℕ) (both : Option (Receive W M × SleepFor)) : Type 0 where
   pub future : Receive W M

@@ -150,3 +150,11 @@ module _ {C : Type 0} (part : C → Buckets) (number nanos : C → ℕ) (sleeps 
   TakePolls (Waits ticket) bucket n c r s d = GoesOn (Some ticket) bucket n c r s d
   TakePolls (Sleeps ticket sleep) bucket n c r s d = Wakes ticket bucket n sleep c r s d
   TakePolls Over bucket n c r s d = ⊥
+
+  -- The answer is that of a poll of a take of n tokens of the bucket, in some context.
+  pub record TakeGives (bucket n : ℕ) (answer : Result ⊤ TakeError) : Type 0 where
+    pub stage : Stage
+    pub left : Stage
+    pub at : C
+    pub after : C
+    pub polled : TakePolls stage bucket n at (Ready answer) left after

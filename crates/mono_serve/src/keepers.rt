@@ -3,7 +3,7 @@ ghost use Rattle.std.specs.Prelude.{◌≡◌, false};
 ghost use Rattle.std.specs.Option.{option_map};
 ghost use Rattle.mono_model.specs.Poll.{OnPending};
 ghost use Rattle.mono_time.specs.Instants.{nanos_of};
-ghost use Rattle.mono_serve.specs.Keepers.{is_over, KeeperPolls, KeeperCancels, LeavesRest, Keeps, RestsIn, RestsUntil, MakesNap, Naps};
+ghost use Rattle.mono_serve.specs.Keepers.{is_over, KeeperPolls, KeeperGives, KeeperCancels, LeavesRest, Keeps, RestsIn, RestsUntil, MakesNap, Naps};
 ghost use Rattle.mono_serve.specs.Spent.{keeper_spent};
 ghost use Rattle.mono_serve.specs.LeaseCalls.{ShownAt, Rests, Forgets, Then};
 ghost use Rattle.mono_serve.specs.Takes.{deadline_of};
@@ -245,6 +245,8 @@ impl<W: Holds<Leases>, C: TimeContext + SharedContext<W>> TaskFuture<C> for Keep
     ghost is_spent = { keeper_spent };
 
     ghost polls = { λ f c r g d. KeeperPolls (λ x. W.part (C.shared x)) C.number C.nanos C.sleeps C.work C.reaches f.phase c r g.phase d };
+
+    ghost gives = { λ f. KeeperGives (λ x. W.part (C.shared x)) C.number C.nanos C.sleeps C.work C.reaches };
 
     ghost cancels = { λ f c d. KeeperCancels (λ x. W.part (C.shared x)) C.number C.sleeps C.work C.reaches f.phase c d };
 

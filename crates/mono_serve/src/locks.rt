@@ -5,7 +5,7 @@ ghost use Rattle.mono_model.specs.Poll.{OnPending};
 ghost use Rattle.mono_session.specs.Answers.{of_number, of_done};
 ghost use Rattle.mono_session.specs.Calls as call;
 ghost use Rattle.mono_serve.specs.LeaseCalls.{Calls, Claims, Looks, GivesUp, Then};
-ghost use Rattle.mono_serve.specs.Locks.{CallsIn, LeavesLock, AsksFor, LooksAgain, AcquirePolls, AcquireCancels};
+ghost use Rattle.mono_serve.specs.Locks.{CallsIn, LeavesLock, AsksFor, LooksAgain, AcquirePolls, AcquireGives, AcquireCancels};
 ghost use Rattle.mono_serve.specs.Spent.{acquire_spent};
 
 use crate::lease_parts::{
@@ -306,6 +306,8 @@ impl<W: Holds<Leases>, C: SharedContext<W>> TaskFuture<C> for Acquire<W> {
     ghost is_spent = { acquire_spent };
 
     ghost polls = { λ f c r g d. AcquirePolls (λ x. W.part (C.shared x)) C.number C.nanos C.work f.ticket f.session f.key c r g.ticket d };
+
+    ghost gives = { λ f. AcquireGives (λ x. W.part (C.shared x)) C.number C.nanos C.work f.session f.key };
 
     ghost cancels = { λ f c d. AcquireCancels (λ x. W.part (C.shared x)) C.number C.work f.ticket f.session f.key c d };
 

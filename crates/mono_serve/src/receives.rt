@@ -1,7 +1,7 @@
 // A future that receives a message to an actor.
 ghost use Rattle.std.specs.Prelude.{◌≡◌, false};
 ghost use Rattle.std.specs.declared.option.Option.TheVariants.{None};
-ghost use Rattle.mono_serve.specs.Mail.{IsLimited, Leaves, ReceivePolls, ReceiveCancels};
+ghost use Rattle.mono_serve.specs.Mail.{IsLimited, Leaves, ReceivePolls, ReceiveGives, ReceiveCancels};
 ghost use Rattle.mono_serve.specs.Spent.{receive_spent};
 ghost use Rattle.mono_serve.specs.MailCalls.{Receives, GivesUp};
 ghost use Rattle.mono_task.specs.Owed.{Keeps};
@@ -118,6 +118,8 @@ impl<W: Holds<Mailboxes<M>>, M: Drop, C: SharedContext<W>> TaskFuture<C> for Rec
     ghost is_spent = { receive_spent };
 
     ghost polls = { λ f c r g d. ReceivePolls (λ x. W.part (C.shared x)) C.number C.work f.ticket f.actor c r g.ticket d };
+
+    ghost gives = { λ f. ReceiveGives (λ x. W.part (C.shared x)) C.number C.work f.actor };
 
     ghost cancels = { λ f c d. ReceiveCancels (λ x. W.part (C.shared x)) C.number C.work f.ticket c d };
 

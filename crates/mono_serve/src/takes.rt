@@ -5,7 +5,7 @@ ghost use Rattle.std.specs.declared.option.Option.TheVariants.{None};
 ghost use Rattle.mono_model.specs.Poll.{OnPending};
 ghost use Rattle.mono_time.specs.Instants.{nanos_of};
 ghost use Rattle.mono_serve.specs.BucketCalls.{Enters, Asks, GivesUp};
-ghost use Rattle.mono_serve.specs.Takes.{deadline_of, is_over, MayGoOn, LeavesLine, FailsAwake, Naps, FirstNap, MakesSleep, Rests, AsksFor, GoesOn, TakePolls, TakeCancels};
+ghost use Rattle.mono_serve.specs.Takes.{deadline_of, is_over, MayGoOn, LeavesLine, FailsAwake, Naps, FirstNap, MakesSleep, Rests, AsksFor, GoesOn, TakePolls, TakeGives, TakeCancels};
 ghost use Rattle.mono_serve.specs.Spent.{take_spent};
 ghost use Rattle.mono_serve.specs.declared.takes.Stage.TheVariants.{Fresh};
 ghost use Rattle.mono_task.specs.Owed.{Keeps};
@@ -375,6 +375,8 @@ impl<W: Holds<Buckets>, C: TimeContext + SharedContext<W>> TaskFuture<C> for Tak
     ghost is_spent = { take_spent };
 
     ghost polls = { λ f c r g d. TakePolls (λ x. W.part (C.shared x)) C.number C.nanos C.sleeps C.work C.reaches f.stage f.bucket f.n c r g.stage d };
+
+    ghost gives = { λ f. TakeGives (λ x. W.part (C.shared x)) C.number C.nanos C.sleeps C.work C.reaches f.bucket f.n };
 
     ghost cancels = { λ f c d. TakeCancels (λ x. W.part (C.shared x)) C.number C.sleeps C.work C.reaches f.stage c d };
 

@@ -190,7 +190,7 @@ module _ {C A B X Y E : Type 0} (w : Frame C) (a : FutureOf A C (Result X E)) (b
   two_cover : (c m d : C) (first : MaybeDone A (Result X E)) (before second : MaybeDone B (Result Y E)) → w.reaches c m → MaybeCovers a w.number w.work w.reaches w.watcher p.needs c first m
       → AdvancesUnless b (is_some (failure_of first)) before m second d → Pending ≡ try_join_rule (both_results (output_of first) (output_of second)) → Covered c d first second
   two_cover c m d (Future f) before second reached one turn told = record {
-    one = one_before w c m d (p.needs f) (λ x. MaybeNeeds p.needs (Future f) x ⊎ MaybeNeeds q.needs second x) (λ x is. inl is) one.one more;
+    one = one_before w c m d (p.needs f) (λ x. MaybeNeeds {O = Result X E} p.needs (Future f) x ⊎ MaybeNeeds {O = Result Y E} q.needs second x) (λ x is. inl is) one.one more;
     each = λ x is. elim is [
       | inl left ↦ heard_before w c m d x (one.each x left) more
       | inr right ↦ heard_after w c m d x reached (one_hears w b q m second d (b_covers before m second d turn) x right)
@@ -203,7 +203,7 @@ module _ {C A B X Y E : Type 0} (w : Frame C) (a : FutureOf A C (Result X E)) (b
     where
       by_second : (s : MaybeDone B (Result Y E)) → MaybeCovers b w.number w.work w.reaches w.watcher q.needs m s d → Pending ≡ try_join_rule (both_results (ok_first x) (output_of s)) → Covered c d (Done (Ok x)) s
       by_second (Future g) two is = record {
-        one = one_after w c m d (q.needs g) (λ z. MaybeNeeds p.needs (Done (Ok x)) z ⊎ MaybeNeeds q.needs (Future g) z) (λ z is. inr is) reached two.one;
+        one = one_after w c m d (q.needs g) (λ z. MaybeNeeds {O = Result X E} p.needs (Done (Ok x)) z ⊎ MaybeNeeds {O = Result Y E} q.needs (Future g) z) (λ z is. inr is) reached two.one;
         each = λ z needed. elim needed [ inl none ↦ absurd none | inr right ↦ heard_after w c m d z reached (two.each z right) ];
       }
       by_second (Done y) two is = absurd (both_end x y is)

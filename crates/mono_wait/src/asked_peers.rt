@@ -21,7 +21,7 @@ use mono_sync::Holds;
 // It needs its ticket.
 impl<T: Drop, W: Holds<Mutex<T>>, C: SharedWaitContext<W>> Waits<C>
     for Reaching<Asking<W, mutex::LockCall<T>>> {
-    ghost needs = { λ f. PlaceNeeds W.place [] f.future.ticket };
+    ghost needs = { λ f. PlaceNeeds (λ w. mutex_calls.listed_by (W.part w)) W.lists [] f.future.ticket };
 
     ghost polls_reach = { λ f c r g d p. p.1 };
 
@@ -33,7 +33,7 @@ impl<T: Drop, W: Holds<Mutex<T>>, C: SharedWaitContext<W>> Waits<C>
 // It needs its ticket.
 impl<T: Drop, W: Holds<RwLock<T>>, C: SharedWaitContext<W>> Waits<C>
     for Reaching<Asking<W, rwlock::ReadCall<T>>> {
-    ghost needs = { λ f. PlaceNeeds W.place [] f.future.ticket };
+    ghost needs = { λ f. PlaceNeeds (λ w. rwlock_calls.listed_by (W.part w)) W.lists [] f.future.ticket };
 
     ghost polls_reach = { λ f c r g d p. p.1 };
 
@@ -45,7 +45,7 @@ impl<T: Drop, W: Holds<RwLock<T>>, C: SharedWaitContext<W>> Waits<C>
 // It needs its ticket.
 impl<T: Drop, W: Holds<RwLock<T>>, C: SharedWaitContext<W>> Waits<C>
     for Reaching<Asking<W, rwlock::WriteCall<T>>> {
-    ghost needs = { λ f. PlaceNeeds W.place [] f.future.ticket };
+    ghost needs = { λ f. PlaceNeeds (λ w. rwlock_calls.listed_by (W.part w)) W.lists [] f.future.ticket };
 
     ghost polls_reach = { λ f c r g d p. p.1 };
 
@@ -57,7 +57,7 @@ impl<T: Drop, W: Holds<RwLock<T>>, C: SharedWaitContext<W>> Waits<C>
 // It needs its ticket.
 impl<W: Holds<Barrier>, C: SharedWaitContext<W>> Waits<C>
     for Reaching<Asking<W, barrier::WaitCall>> {
-    ghost needs = { λ f. PlaceNeeds W.place [] f.future.ticket };
+    ghost needs = { λ f. PlaceNeeds (λ w. barrier_calls.listed_by (W.part w)) W.lists [] f.future.ticket };
 
     ghost polls_reach = { λ f c r g d p. p.1 };
 
@@ -69,7 +69,7 @@ impl<W: Holds<Barrier>, C: SharedWaitContext<W>> Waits<C>
 // It needs its ticket.
 impl<T: Drop, W: Holds<OnceCell<T>>, C: SharedWaitContext<W>> Waits<C>
     for Reaching<Asking<W, once_cell::InitCall<T>>> {
-    ghost needs = { λ f. PlaceNeeds W.place [] f.future.ticket };
+    ghost needs = { λ f. PlaceNeeds (λ w. once_cell_calls.listed_by (W.part w)) W.lists [] f.future.ticket };
 
     ghost polls_reach = { λ f c r g d p. p.1 };
 
@@ -81,7 +81,7 @@ impl<T: Drop, W: Holds<OnceCell<T>>, C: SharedWaitContext<W>> Waits<C>
 // It needs its ticket.
 impl<T: Copy + Drop, W: Holds<Broadcast<T>>, C: SharedWaitContext<W>> Waits<C>
     for Reaching<Asking<W, broadcast::RecvCall<T>>> {
-    ghost needs = { λ f. PlaceNeeds W.place [] f.future.ticket };
+    ghost needs = { λ f. PlaceNeeds (λ w. broadcast_calls.listed_by (W.part w)) W.lists [] f.future.ticket };
 
     ghost polls_reach = { λ f c r g d p. p.1 };
 

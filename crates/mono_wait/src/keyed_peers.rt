@@ -19,7 +19,7 @@ use mono_sync::{AcquireAt, Holds, Many, NotifiedAt, Notify, Semaphore};
 // It needs its ticket among the senders of its key.
 impl<T: Drop, W: Holds<Many<Channel<T>>>, C: SharedWaitContext<W>> Waits<C>
     for Reaching<mpsc::SendAt<W, T>> {
-    ghost needs = { λ f. PlaceNeeds W.place (f.future.key ∷ zero ∷ []) f.future.ticket };
+    ghost needs = { λ f. PlaceNeeds (λ w. lists_each channel_calls.listed_by (W.part w)) W.lists (f.future.key ∷ zero ∷ []) f.future.ticket };
 
     ghost polls_reach = { λ f c r g d p. p.1 };
 
@@ -31,7 +31,7 @@ impl<T: Drop, W: Holds<Many<Channel<T>>>, C: SharedWaitContext<W>> Waits<C>
 // It needs its ticket among the receivers of its key.
 impl<T: Drop, W: Holds<Many<Channel<T>>>, C: SharedWaitContext<W>> Waits<C>
     for Reaching<mpsc::RecvAt<W, T>> {
-    ghost needs = { λ f. PlaceNeeds W.place (f.future.key ∷ suc zero ∷ []) f.future.ticket };
+    ghost needs = { λ f. PlaceNeeds (λ w. lists_each channel_calls.listed_by (W.part w)) W.lists (f.future.key ∷ suc zero ∷ []) f.future.ticket };
 
     ghost polls_reach = { λ f c r g d p. p.1 };
 
@@ -42,7 +42,7 @@ impl<T: Drop, W: Holds<Many<Channel<T>>>, C: SharedWaitContext<W>> Waits<C>
 
 // It needs its ticket under its key.
 impl<W: Holds<Many<Semaphore>>, C: SharedWaitContext<W>> Waits<C> for Reaching<AcquireAt<W>> {
-    ghost needs = { λ f. PlaceNeeds W.place (f.future.key ∷ []) f.future.ticket };
+    ghost needs = { λ f. PlaceNeeds (λ w. lists_each semaphore_calls.listed_by (W.part w)) W.lists (f.future.key ∷ []) f.future.ticket };
 
     ghost polls_reach = { λ f c r g d p. p.1 };
 
@@ -53,7 +53,7 @@ impl<W: Holds<Many<Semaphore>>, C: SharedWaitContext<W>> Waits<C> for Reaching<A
 
 // It needs its ticket under its key.
 impl<W: Holds<Many<Notify>>, C: SharedWaitContext<W>> Waits<C> for Reaching<NotifiedAt<W>> {
-    ghost needs = { λ f. PlaceNeeds W.place (f.future.key ∷ []) f.future.ticket };
+    ghost needs = { λ f. PlaceNeeds (λ w. lists_each notice_calls.listed_by (W.part w)) W.lists (f.future.key ∷ []) f.future.ticket };
 
     ghost polls_reach = { λ f c r g d p. p.1 };
 
@@ -65,7 +65,7 @@ impl<W: Holds<Many<Notify>>, C: SharedWaitContext<W>> Waits<C> for Reaching<Noti
 // It needs its ticket under its key.
 impl<T: Drop, W: Holds<Many<Watch<T>>>, C: SharedWaitContext<W>> Waits<C>
     for Reaching<watch::ChangedAt<W, T>> {
-    ghost needs = { λ f. PlaceNeeds W.place (f.future.key ∷ []) f.future.ticket };
+    ghost needs = { λ f. PlaceNeeds (λ w. lists_each watch_calls.listed_by (W.part w)) W.lists (f.future.key ∷ []) f.future.ticket };
 
     ghost polls_reach = { λ f c r g d p. p.1 };
 
@@ -77,7 +77,7 @@ impl<T: Drop, W: Holds<Many<Watch<T>>>, C: SharedWaitContext<W>> Waits<C>
 // It needs its ticket under its key.
 impl<T: Drop, W: Holds<Many<Oneshot<T>>>, C: SharedWaitContext<W>> Waits<C>
     for Reaching<oneshot::RecvAt<W, T>> {
-    ghost needs = { λ f. PlaceNeeds W.place (f.future.key ∷ []) f.future.ticket };
+    ghost needs = { λ f. PlaceNeeds (λ w. lists_each oneshot_calls.listed_by (W.part w)) W.lists (f.future.key ∷ []) f.future.ticket };
 
     ghost polls_reach = { λ f c r g d p. p.1 };
 

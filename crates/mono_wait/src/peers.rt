@@ -7,7 +7,7 @@ ghost use Rattle.mono_sync.specs.Watches as watch;
 ghost use Rattle.mono_sync.specs.Oneshot as one_message;
 ghost use Rattle.mono_wait.specs.Frames.{frame_of};
 ghost use Rattle.mono_wait.specs.Keepers.{KeeperNeeds, keepers_cover};
-ghost use Rattle.mono_wait.specs.Places.{PlaceNeeds, places_cover};
+ghost use Rattle.mono_wait.specs.Places.{PlaceNeeds, SenderNeeds, ReceiverNeeds, places_cover};
 ghost use Rattle.mono_wait.specs.ListedTasks.{send_stands, recv_stands, acquire_stands, notified_stands, changed_stands, delivery_stands, wait_for_stands};
 ghost use Rattle.std.specs.Fn.{FnReturnsAt};
 
@@ -22,7 +22,7 @@ use mono_sync::{Acquire, Holds, Lists, Notified, Notify, Semaphore};
 
 // It needs its ticket among the senders.
 impl<T: Drop, W: Holds<Channel<T>>, C: SharedWaitContext<W>> Waits<C> for Reaching<Send<W, T>> {
-    ghost needs = { λ f. PlaceNeeds W.place (zero ∷ []) f.future.ticket };
+    ghost needs = { λ f. SenderNeeds (λ w. channel.listed_by (W.part w)) W.lists f.future.ticket };
 
     ghost polls_reach = { λ f c r g d p. p.1 };
 
@@ -33,7 +33,7 @@ impl<T: Drop, W: Holds<Channel<T>>, C: SharedWaitContext<W>> Waits<C> for Reachi
 
 // It needs its ticket among the receivers.
 impl<T: Drop, W: Holds<Channel<T>>, C: SharedWaitContext<W>> Waits<C> for Reaching<Recv<W, T>> {
-    ghost needs = { λ f. PlaceNeeds W.place (suc zero ∷ []) f.future.ticket };
+    ghost needs = { λ f. ReceiverNeeds (λ w. channel.listed_by (W.part w)) W.lists f.future.ticket };
 
     ghost polls_reach = { λ f c r g d p. p.1 };
 
@@ -44,7 +44,7 @@ impl<T: Drop, W: Holds<Channel<T>>, C: SharedWaitContext<W>> Waits<C> for Reachi
 
 // It needs its ticket.
 impl<W: Holds<Semaphore>, C: SharedWaitContext<W>> Waits<C> for Reaching<Acquire<W>> {
-    ghost needs = { λ f. PlaceNeeds W.place [] f.future.ticket };
+    ghost needs = { λ f. PlaceNeeds (λ w. semaphore.listed_by (W.part w)) W.lists [] f.future.ticket };
 
     ghost polls_reach = { λ f c r g d p. p.1 };
 
@@ -55,7 +55,7 @@ impl<W: Holds<Semaphore>, C: SharedWaitContext<W>> Waits<C> for Reaching<Acquire
 
 // It needs its ticket.
 impl<W: Holds<Notify>, C: SharedWaitContext<W>> Waits<C> for Reaching<Notified<W>> {
-    ghost needs = { λ f. PlaceNeeds W.place [] f.future.ticket };
+    ghost needs = { λ f. PlaceNeeds (λ w. notice.listed_by (W.part w)) W.lists [] f.future.ticket };
 
     ghost polls_reach = { λ f c r g d p. p.1 };
 
@@ -66,7 +66,7 @@ impl<W: Holds<Notify>, C: SharedWaitContext<W>> Waits<C> for Reaching<Notified<W
 
 // It needs its ticket.
 impl<T: Drop, W: Holds<Watch<T>>, C: SharedWaitContext<W>> Waits<C> for Reaching<Changed<W, T>> {
-    ghost needs = { λ f. PlaceNeeds W.place [] f.future.ticket };
+    ghost needs = { λ f. PlaceNeeds (λ w. watch.listed_by (W.part w)) W.lists [] f.future.ticket };
 
     ghost polls_reach = { λ f c r g d p. p.1 };
 
@@ -78,7 +78,7 @@ impl<T: Drop, W: Holds<Watch<T>>, C: SharedWaitContext<W>> Waits<C> for Reaching
 // It needs its ticket.
 impl<T: Drop, W: Holds<Oneshot<T>>, C: SharedWaitContext<W>> Waits<C>
     for Reaching<oneshot::Recv<W, T>> {
-    ghost needs = { λ f. PlaceNeeds W.place [] f.future.ticket };
+    ghost needs = { λ f. PlaceNeeds (λ w. one_message.listed_by (W.part w)) W.lists [] f.future.ticket };
 
     ghost polls_reach = { λ f c r g d p. p.1 };
 
@@ -90,7 +90,7 @@ impl<T: Drop, W: Holds<Oneshot<T>>, C: SharedWaitContext<W>> Waits<C>
 // It needs its ticket among the senders.
 impl<T: Drop, S: Tally<T>, W: Holds<Tallied<T, S>>, C: SharedWaitContext<W>> Waits<C>
     for Reaching<tallies::Send<W, T, S>> {
-    ghost needs = { λ f. PlaceNeeds W.place (zero ∷ []) f.future.ticket };
+    ghost needs = { λ f. SenderNeeds (λ w. channel.listed_by (W.part w).channel) W.lists f.future.ticket };
 
     ghost polls_reach = { λ f c r g d p. p.1 };
 
@@ -102,7 +102,7 @@ impl<T: Drop, S: Tally<T>, W: Holds<Tallied<T, S>>, C: SharedWaitContext<W>> Wai
 // It needs its ticket among the receivers.
 impl<T: Drop, S: Tally<T>, W: Holds<Tallied<T, S>>, C: SharedWaitContext<W>> Waits<C>
     for Reaching<tallies::Recv<W, T, S>> {
-    ghost needs = { λ f. PlaceNeeds W.place (suc zero ∷ []) f.future.ticket };
+    ghost needs = { λ f. ReceiverNeeds (λ w. channel.listed_by (W.part w).channel) W.lists f.future.ticket };
 
     ghost polls_reach = { λ f c r g d p. p.1 };
 
@@ -119,7 +119,7 @@ where
     C: SharedWaitContext<W>,
     F: Fn(&T) -> bool + Drop,
 {
-    ghost needs = { λ f. PlaceNeeds W.place [] f.future.ticket };
+    ghost needs = { λ f. PlaceNeeds (λ w. watch.listed_by (W.part w)) W.lists [] f.future.ticket };
 
     fn tells_its_needs(&self) {}
 

@@ -1,5 +1,7 @@
-//! Tests of tokens, over their public calls.
+//! Tests of tokens and of sets of tasks, over their public calls.
 #![tactic(auto)]
 
+#[cfg(test)]
+mod join_sets;
 #[cfg(test)]
 mod tokens;
