@@ -13,7 +13,6 @@ use std::alloc::Global;
 /// The end that sends.
 pub type Tx = Sender<u64, UnparkHandle>;
 
-/// A loop's next step: it ends with the sender and how many numbers are left, or goes on with both.
 type Next = Loop<Numbered<Tx>, (Tx, u64)>;
 
 // Returns what the loop does after it sent a number, the first of those that were left.
