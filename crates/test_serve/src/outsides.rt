@@ -1,4 +1,5 @@
 // A task that waits for another thread, by a future that hands out a waker in each pending poll.
+ghost use Rattle.mono_model.specs.Poll.{OnPending};
 ghost use Rattle.mono_channel.specs.Polls.{FindsNone};
 
 use mono_channel::{Receiver, Sender, channel};
@@ -25,7 +26,9 @@ impl Outside<UnparkHandle> for NextNumber {
 
     ghost hands = { λ a t b. FindsNone a.receiver b.receiver };
 
-    fn poll_outside<R: Host>(&mut self, rt: &R, waker: RemoteWaker<UnparkHandle>) -> Poll<u64> {
+    fn poll_outside<R: Host>(&mut self, rt: &R, waker: RemoteWaker<UnparkHandle>) -> Poll<u64>
+        ensures handed { OnPending result (FindsNone self.old.receiver self.new.receiver) }
+    {
         match self.receiver.poll_recv(rt, &waker) {
             Poll::Pending => Poll::Pending,
             Poll::Ready(Ok(Some(number))) => Poll::Ready(number),
