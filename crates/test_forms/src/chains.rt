@@ -5,10 +5,9 @@ use mono_rt::{
     TimeDriver,
 };
 use mono_task::TaskFuture;
-use mono_time::{SleepError, SleepFor, sleep_for};
+use mono_time::SleepError;
 use std::alloc::Global;
 use std::process::Abort;
-use std::time::Duration;
 
 /// How a main task ends, and the turns, the parks and the milliseconds of its parks.
 pub(crate) type Ended<O> = (Result<O, RunError>, (u64, u64, u64));
@@ -58,15 +57,7 @@ where
     (answer, told_in(runtime.journal()))
 }
 
-/// The answer of a sleep.
-pub(crate) type Slept = Result<(), SleepError>;
-
-/// Returns a sleep of so many milliseconds.
-pub(crate) fn millis(count: u64) -> SleepFor {
-    sleep_for(Duration::from_millis(count))
-}
-
 /// Answers 1 after a sleep.
-pub(crate) fn one(_: Slept) -> u64 {
+pub(crate) fn one(_: Result<(), SleepError>) -> u64 {
     1
 }

@@ -11,15 +11,11 @@ mod contexts;
 #[cfg(test)]
 mod counts;
 #[cfg(test)]
-mod handles;
-#[cfg(test)]
 mod jobs;
 #[cfg(test)]
 mod joins;
 #[cfg(test)]
 mod logs;
-#[cfg(test)]
-mod races;
 #[cfg(test)]
 mod sequences;
 #[cfg(test)]

@@ -1,7 +1,16 @@
-// A select of five unlike futures as a main task of a built runtime.
-use crate::chains::{Slept, millis, run};
+// A select of five unlike futures as a main task of a built runtime. One of three or four is a select of a list, too.
+use crate::chains::run;
 use mono_combine::{Out5, Start, select5};
 use mono_forms::{FutureExt, ready};
+use mono_time::{SleepError, SleepFor, sleep_for};
+use std::time::Duration;
+
+/// The answer of a sleep.
+type Slept = Result<(), SleepError>;
+
+fn millis(count: u64) -> SleepFor {
+    sleep_for(Duration::from_millis(count))
+}
 
 fn none_left() -> u64 {
     99
