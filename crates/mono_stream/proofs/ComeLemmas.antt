@@ -33,6 +33,12 @@ unless_ended (Ready (Some x)) P p = p
 unless_ended (Ready None) P p = tt
 unless_ended Pending P p = p
 
+pub unless_ended_both : {X : Type 0} (r : Poll (Option X)) (P Q : Type 0) → P → Q → UnlessEnded r (P × Q)
+unless_ended_both r P Q p q = unless_ended r (P × Q) (p, q)
+
+pub unless_ended_three : {X : Type 0} (r : Poll (Option X)) (P Q R : Type 0) → P → Q → R → UnlessEnded r (P × Q × R)
+unless_ended_three r P Q R p q s = unless_ended r (P × Q × R) (p, q, s)
+
 -- A stream behind a reference.
 module _ {S X : Type 0} (gives : S → List X → Type 0) where
   abbrev Behind : MutBor S → List X → Type 0

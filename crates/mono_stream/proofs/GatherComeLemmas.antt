@@ -49,7 +49,7 @@ module _ {F T X : Type 0} (call : Mut F (T × (X × Unit {0})) T) where
   combined : (xs : List X) (ys : List (Unit {0})) (v w : Folding T F) (t : T) → v.value ≡ Some t → Are v xs ys w → (u : T) × (w.value ≡ Some u) × FoldsTo (Combines call) (v.f, t) xs (w.f, u)
   combined [] ys v w t is (none, same) = (t, ap (λ k. k.value) same ∙ is, ap (λ k. (k.f, t)) (sym same))
   combined (x ∷ xs) ys v w t is (unfinished, y, k, one, zs, are, rest) =
-      let (n, called, has, no) = subst (λ o. FoldSifts call o v.f x y k.value k.f) is one in
+      let (n, called, has, nothing) = subst (λ o. FoldSifts call o v.f x y k.value k.f) is one in
       let (u, last, chain) = combined xs zs k w n has rest in
       (u, last, ((k.f, n), called, chain))
 
@@ -59,6 +59,12 @@ module _ {F T X : Type 0} (call : Mut F (T × (X × Unit {0})) T) where
       let (t, is) = some_of v.value some in
       let (u, has, chain) = combined taken.items [] v w t is taken.sifted in
       something w.value u has
+
+  pub some_at_end : (Come : List X → Type 0) (v w : Folding T F) → is_nothing v.value ≡ false → SiftsTo never (FoldingSifts call) Come v [] w → (o : Option T) → o ≡ w.value → IsSome o
+  some_at_end Come v w some came o same =
+      let (t, is) = some_of v.value some in
+      let (u, has, chain) = combined came.items [] v w t is came.sifted in
+      is_some_of o u (same ∙ has)
 
   -- What is combined is taken.
   taken_of : (xs : List X) (v : Folding T F) (t : T) (q : F × T) → v.value ≡ Some t → FoldsTo (Combines call) (v.f, t) xs q → (w : Folding T F) × (w.value ≡ Some q.1) × (w.f ≡ q.0) × Are v xs [] w
@@ -87,9 +93,9 @@ module _ {F T X : Type 0} (call : Mut F (T × (X × Unit {0})) T) where
         subst (λ f. call.pre f (q.1, (x, tt))) func ((able.at xs [] x w come are refl).1 q.1 has);
   }
 
-folded_then : {P A : Type 0} {R : P → A → P → Type 0} (us : List A) (p q : P) → FoldsTo R p us q → (xs : List A) (r : P) → FoldsTo R q xs r → FoldsTo R p (us ++ xs) r
-folded_then {R = R} [] p q same xs r rest = subst (λ o. FoldsTo R o xs r) (sym same) rest
-folded_then {R = R} (a ∷ us) p q (j, one, more) xs r rest = (j, one, folded_then us j q more xs r rest)
+folded_then : {P A : Type 0} (R : P → A → P → Type 0) (us : List A) (p q : P) → FoldsTo R p us q → (xs : List A) (r : P) → FoldsTo R q xs r → FoldsTo R p (us ++ xs) r
+folded_then R [] p q same xs r rest = subst (λ o. FoldsTo R o xs r) (sym same) rest
+folded_then R (a ∷ us) p q (j, one, more) xs r rest = (j, one, folded_then R us j q more xs r rest)
 
 module _ {S F T X : Type 0} (gives : S → List X → Type 0) (call : Mut F (T × (X × Unit {0})) T) (f : Fold S T F) (some : is_nothing f.folding.value ≡ false) where
   -- The stream has ended, and this is the value.
@@ -111,13 +117,13 @@ module _ {S F T X : Type 0} (gives : S → List X → Type 0) (call : Mut F (T �
       let (t, is) = some_of f.folding.value some in
       let (u, has, chain) = combined call taken.items [] f.folding g.folding t is taken.sifted in
       let next : FoldsTo (Combines call) (g.folding.f, u) later.items (later.after, last) =
-          subst (λ r. FoldsTo (Combines call) (g.folding.f, r) later.items (later.after, last)) (some_inj later.first u (sym later.value ∙ has)) later.folded in record {
+      subst (λ r. FoldsTo (Combines call) (g.folding.f, r) later.items (later.after, last)) (some_inj later.first u (sym later.value ∙ has)) later.folded in record {
         first = t;
         value = is;
         items = taken.items ++ later.items;
         may = taken.follow later.items later.may;
         after = later.after;
-        folded = folded_then taken.items (f.folding.f, t) (g.folding.f, u) chain later.items (later.after, last) next;
+        folded = folded_then (Combines call) taken.items (f.folding.f, t) (g.folding.f, u) chain later.items (later.after, last) next;
       }
 
 -- ---- collect

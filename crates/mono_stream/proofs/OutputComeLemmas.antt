@@ -16,5 +16,5 @@ module _ {F C Y : Type 0} (future : FutureOf F C Y) (s t : Outputs F) (unspent :
   output_first y given tried ys may = (unspent, given, (t.future, record { count = 0; waiting = s.future; waited = refl; ready = tried }, any_come Gives t tt ys may))
 
   pub output_waits : ((y : Y) → future.gives t.future y → future.gives s.future y) → IsTried future s.future Pending t.future → (y : Y) (ys : List Y) → Gives t (y ∷ ys) → Gives s (y ∷ ys)
-  output_waits fewer tried y ys (still, given, left, leaves, rest) =
-      (unspent, fewer y given, left, record { count = suc leaves.count; waiting = leaves.waiting; waited = (t.future, tried, leaves.waited); ready = leaves.ready }, rest)
+  output_waits fewer tried y ys (still, given, (left, leaves, rest)) =
+      (unspent, fewer y given, (left, record { count = suc leaves.count; waiting = leaves.waiting; waited = (t.future, tried, leaves.waited); ready = leaves.ready }, rest))

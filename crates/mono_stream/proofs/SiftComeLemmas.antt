@@ -68,16 +68,21 @@ module _ {V X Y : Type 0} (done : V → Bool) (sifts : V → X → Option Y → 
 
     pub found_on : (y : Y) → Finds done sifts y (MayCome gives m.stream) (MayCome gives n.stream) m.sieve n.sieve → (ys : List Y) → MayCome (SiftedGives gives done sifts) n ys → SiftedGives gives done sifts m (y ∷ ys)
     found_on y found ys may =
-        let (u, later) = any_come (SiftedGives gives done sifts) n none_sifted ys may in
-        (u, record {
-          items = found.items ++ found.item ∷ later.items;
-          may = found.follow later.items later.may;
-          sifted = sifted_then found.items m.sieve found.sieve [] found.passed (found.item ∷ later.items) (y ∷ ys) u (found.unfinished, Some y, n.sieve, found.sifted, ys, refl, later.sifted);
-        })
+        let (u, later) = any_come (SiftedGives gives done sifts) n none_sifted ys may in (
+          u,
+          record {
+            items = found.items ++ found.item ∷ later.items;
+            may = found.follow later.items later.may;
+            sifted = sifted_then found.items m.sieve found.sieve [] found.passed (found.item ∷ later.items) (y ∷ ys) u (found.unfinished, Some y, n.sieve, found.sifted, ys, refl, later.sifted);
+          },
+        )
 
     pub taken_on : Taken done sifts (MayCome gives m.stream) (MayCome gives n.stream) m.sieve n.sieve → (y : Y) (ys : List Y) → SiftedGives gives done sifts n (y ∷ ys) → SiftedGives gives done sifts m (y ∷ ys)
-    taken_on taken y ys (u, later) = (u, record {
-      items = taken.items ++ later.items;
-      may = taken.follow later.items later.may;
-      sifted = sifted_then taken.items m.sieve n.sieve [] taken.sifted later.items (y ∷ ys) u later.sifted;
-    })
+    taken_on taken y ys (u, later) = (
+      u,
+      record {
+        items = taken.items ++ later.items;
+        may = taken.follow later.items later.may;
+        sifted = sifted_then taken.items m.sieve n.sieve [] taken.sifted later.items (y ∷ ys) u later.sifted;
+      },
+    )

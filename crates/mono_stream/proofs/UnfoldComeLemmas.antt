@@ -101,15 +101,21 @@ module _ {T F Fut C X : Type 0} (future : FutureOf Fut C (Option (X × T))) (cal
 
   -- The stream after a poll may be polled again.
   unfold_again : (v : Unfold T F Fut) (r : Poll (Option X)) → HeldIsLive future v.made → UnfoldsLive future call u → LeadsOn future.gives call u r v → UnlessEnded r (HeldIsLive future v.made × UnfoldsLive future call v)
-  unfold_again v (Ready (Some x)) held live on = (held, record {
-    can_call = λ xs q h. live.can_call (x ∷ xs) q (on xs q h);
-    live = λ xs q g k h. live.live (x ∷ xs) q g k (on xs q h);
-  })
+  unfold_again v (Ready (Some x)) held live on = (
+    held,
+    record {
+      can_call = λ xs q h. live.can_call (x ∷ xs) q (on xs q h);
+      live = λ xs q g k h. live.live (x ∷ xs) q g k (on xs q h);
+    },
+  )
   unfold_again v (Ready None) held live on = tt
-  unfold_again v Pending held live on = (held, record {
-    can_call = λ xs q h. live.can_call xs q (on xs q h);
-    live = λ xs q g k h. live.live xs q g k (on xs q h);
-  })
+  unfold_again v Pending held live on = (
+    held,
+    record {
+      can_call = λ xs q h. live.can_call xs q (on xs q h);
+      live = λ xs q g k h. live.live xs q g k (on xs q h);
+    },
+  )
 
   module _ (g : Fut) (r : Poll (Option X)) (made : Option Fut) (state : Option T) (one : UnfoldGivesOne future.gives g r made state) (held : HeldIsLive future made) (live : UnfoldsLive future call u) where
     pub held_again : u.made ≡ Some g → UnlessEnded r (HeldIsLive future made × UnfoldsLive future call (parts state u.f made))

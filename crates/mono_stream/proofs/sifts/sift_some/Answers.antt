@@ -1,7 +1,7 @@
 use Rattle.std.proofs.Common.{◌+◌, refl, arith, sym, ◌∙◌}
 use Rattle.mono_stream.proofs.ComeLemmas.{wait_all}
 use Rattle.mono_stream.proofs.SiftComeLemmas.{none_taken, able_here, able_after, able_still, taken_more, finds, taken_still, taken_all}
-use Rattle.mono_stream.proofs.SiftLemmas.{passes_more}
+use Rattle.mono_stream.proofs.SiftLemmas.{passes_first, passes_more}
 use Rattle.mono_stream.proofs.sifts.sift_some.Goals as goal
 
 pub returns-then-is_done-clause-sifts : goal.returns-then-is_done-clause-sifts
@@ -91,7 +91,7 @@ returns-clause-sifts g c = record {
 
 pub loop-i-init : goal.loop-i-init
 loop-i-init g c = record {
-  passed = λ n t w d h. h;
+  passed = λ n t w d h. passes_first g.S.Stream.polls g.V.Sieve.done g.V.Sieve.sifts n _ t _ w _ d h;
   taken = none_taken g.V.Sieve.done g.V.Sieve.sifts _ _;
   callable = c.requires.callable;
   able = c.requires.able;

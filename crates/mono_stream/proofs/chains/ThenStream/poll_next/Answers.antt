@@ -1,5 +1,5 @@
 use Rattle.std.proofs.Common.{rules, sym, ◌∙◌}
-use Rattle.mono_stream.proofs.ComeLemmas.{unless_ended, wait_all}
+use Rattle.mono_stream.proofs.ComeLemmas.{unless_ended_three, wait_all}
 use Rattle.mono_stream.proofs.ThenComeLemmas.{none_live, live_here, can_make, live_after, live_still, held_to, made_to, waits_to}
 use Rattle.mono_stream.proofs.chains.ThenStream.poll_next.Goals as goal
 
@@ -18,7 +18,7 @@ returns-in-Ready-Some-clause-given g c =
 
 pub returns-in-Ready-Some-clause-callable : goal.returns-in-Ready-Some-clause-callable
 returns-in-Ready-Some-clause-callable g c =
-    unless_ended _ _ (rw (c.in-Ready-Some.is, c.in-Ready-Some.field-0-is) at c.poll_next.ensures.callable, c.finish-first.ensures.live, live_after g.Fut.TaskFuture g.F.FnMut _ _ _ _ _ _ c.requires.2 (rw (c.in-Ready-Some.is, c.in-Ready-Some.field-0-is) at c.poll_next.ensures.given) c.f-future.ensures)
+    unless_ended_three _ _ _ _ (rw (c.in-Ready-Some.is, c.in-Ready-Some.field-0-is) at c.poll_next.ensures.callable) c.finish-first.ensures.live (live_after g.Fut.TaskFuture g.F.FnMut _ _ _ _ _ _ c.requires.2 (rw (c.in-Ready-Some.is, c.in-Ready-Some.field-0-is) at c.poll_next.ensures.given) c.f-future.ensures)
 
 pub returns-in-Pending-clause-given : goal.returns-in-Pending-clause-given
 returns-in-Pending-clause-given g c = waits_to g.S.Stream.gives g.Fut.TaskFuture.gives g.F.FnMut c.args.self.now (search rules) _ c.take.new.self c.take.ensures.after (rw c.in-Pending.is at c.poll_next.ensures.given)

@@ -1,7 +1,7 @@
 use Rattle.std.proofs.Common.{refl, sym, ◌∙◌}
 use Rattle.mono_stream.specs.declared.sifts.Outcome.TheVariants.{Ended, Many}
 use Rattle.mono_stream.proofs.FoldLemmas.{both_if, both_of}
-use Rattle.mono_stream.proofs.GatherComeLemmas.{still_some, able_to_fold, folds_over, fold_answers, fold_waits}
+use Rattle.mono_stream.proofs.GatherComeLemmas.{still_some, some_at_end, able_to_fold, folds_over, fold_answers, fold_waits}
 use Rattle.mono_stream.proofs.folds.FoldTaskFuture.poll.Goals as goal
 
 pub returns-in-Ended-clause-polled : goal.returns-in-Ended-clause-polled
@@ -54,6 +54,9 @@ sift_some-requires-clause-callable g c = (both_of _ c.requires.unspent c.require
 
 pub sift_some-requires-clause-able : goal.sift_some-requires-clause-able
 sift_some-requires-clause-able g c = able_to_fold g.F.FnMut _ c.args.self.now.folding c.requires.unspent (both_of _ c.requires.unspent c.requires.callable).1
+
+pub unwrap-value-requires : goal.unwrap-value-requires
+unwrap-value-requires g c = some_at_end g.F.FnMut _ c.args.self.now.folding c.sift_some.new.sieve c.requires.unspent (rw c.in-Ended.is at c.sift_some.ensures.given) c.take.result c.take.ensures.value
 
 pub returns-in-Ended-clause-given : goal.returns-in-Ended-clause-given
 returns-in-Ended-clause-given g c =

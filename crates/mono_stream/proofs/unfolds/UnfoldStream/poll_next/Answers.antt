@@ -14,8 +14,8 @@ f-future-requires g c = unfold_can g.Fut.TaskFuture g.F.FnMut c.args.self.now _ 
 pub unfold_one-first-requires : goal.unfold_one-first-requires
 unfold_one-first-requires g c = unfold_live g.Fut.TaskFuture g.F.FnMut c.args.self.now _ _ _ c.requires.1 (search rules) (sym c.take-2.ensures.value ∙ c.in-Some-take.is) c.f-future.ensures
 
-pub returns-in-Some-take-clause-given : goal.returns-in-Some-take-clause-given
-returns-in-Some-take-clause-given g c = begun_follow g.Fut.TaskFuture.gives g.F.FnMut c.args.self.now _ _ _ _ c.unfold_one-first.ensures.given _ (search rules) (sym c.take-2.ensures.value ∙ c.in-Some-take.is) _ c.f-future.ensures
+pub returns-clause-given : goal.returns-clause-given
+returns-clause-given g c = begun_follow g.Fut.TaskFuture.gives g.F.FnMut c.args.self.now _ _ _ _ c.unfold_one-first.ensures.given _ (search rules) (sym c.take-2.ensures.value ∙ c.in-Some-take.is) _ c.f-future.ensures
 
-pub returns-in-Some-take-clause-callable : goal.returns-in-Some-take-clause-callable
-returns-in-Some-take-clause-callable g c = begun_again g.Fut.TaskFuture g.F.FnMut c.args.self.now _ _ _ _ c.unfold_one-first.ensures.given c.unfold_one-first.ensures.live c.requires.1 _ (search rules) (sym c.take-2.ensures.value ∙ c.in-Some-take.is) _ c.f-future.ensures
+pub returns-clause-callable : goal.returns-clause-callable
+returns-clause-callable g c = begun_again g.Fut.TaskFuture g.F.FnMut c.args.self.now _ _ _ _ c.unfold_one-first.ensures.given c.unfold_one-first.ensures.live c.requires.1 _ (search rules) (sym c.take-2.ensures.value ∙ c.in-Some-take.is) _ c.f-future.ensures
