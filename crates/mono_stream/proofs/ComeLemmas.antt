@@ -53,14 +53,14 @@ module _ {S X : Type 0} (gives : S → List X → Type 0) where
   behind_on q r (Ready None) follow = tt
   behind_on q r Pending follow = follow
 
-module _ {F X Y : Type 0} (call : Mut F (X × Unit {0}) Y) (Before Later : List X → Type 0) where
-  pub callable_here : (x : X) (f : F) → CallableOver call Before f → ((xs : List X) → Later xs → Before (x ∷ xs)) → Later [] → call.pre f (x, tt)
+module _ {S F X Y : Type 0} (call : Mut F (X × Unit {0}) Y) (gives : S → List X → Type 0) (s t : S) where
+  pub callable_here : (x : X) (f : F) → CallableOver call gives s f → ((xs : List X) → MayCome gives t xs → MayCome gives s (x ∷ xs)) → MayCome gives t [] → call.pre f (x, tt)
   callable_here x f can follow none = can.at [] x f (follow [] none) refl
 
-  pub callable_after : (x : X) (y : Y) (f g : F) → CallableOver call Before f → ((xs : List X) → Later xs → Before (x ∷ xs)) → Called call f (x, tt) y g → CallableOver call Later g
+  pub callable_after : (x : X) (y : Y) (f g : F) → CallableOver call gives s f → ((xs : List X) → MayCome gives t xs → MayCome gives s (x ∷ xs)) → Called call f (x, tt) y g → CallableOver call gives t g
   callable_after x y f g can follow called = record { at = λ xs z h come chain. can.at (x ∷ xs) z h (follow (xs ++ z ∷ []) come) (g, (y, called), chain) }
 
-  pub callable_still : (f : F) → CallableOver call Before f → ((xs : List X) → Later xs → Before xs) → CallableOver call Later f
+  pub callable_still : (f : F) → CallableOver call gives s f → ((xs : List X) → MayCome gives t xs → MayCome gives s xs) → CallableOver call gives t f
   callable_still f can follow = record { at = λ xs z h come chain. can.at xs z h (follow (xs ++ z ∷ []) come) chain }
 
 -- ---- an iterator's items

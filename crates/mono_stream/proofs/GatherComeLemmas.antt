@@ -79,15 +79,15 @@ module _ {F T X : Type 0} (call : Mut F (T × (X × Unit {0})) T) where
   at_some : (o : Option T) (f : F) (x : X) (u : T) → o ≡ Some u → call.pre f (u, (x, tt)) → FoldsAt call o f x
   at_some o f x u has can = λ t is. subst (λ p. call.pre f (p, (x, tt))) (some_inj u t (sym has ∙ is)) can
 
-  pub able_to_fold : (Come : List X → Type 0) (v : Folding T F) → is_nothing v.value ≡ false → FoldsOver call Come v.value v.f → AbleOver never (FoldingSifts call) CanFold Come v
-  able_to_fold Come v some over = let (t, is) = some_of v.value some in record {
+  pub able_to_fold : {S : Type 0} (gives : S → List X → Type 0) (s : S) (v : Folding T F) → is_nothing v.value ≡ false → FoldsOver call gives s v.value v.f → AbleOver never (FoldingSifts call) CanFold gives s v
+  able_to_fold gives s v some over = let (t, is) = some_of v.value some in record {
     at = λ xs ys x w come are last.
         let (u, has, chain) = combined xs ys v w t is are in
         (is_some_of w.value u has, at_some w.value w.f x u has (over.at xs x t (w.f, u) come is chain));
   }
 
-  pub folds_over : (Come : List X → Type 0) (v : Folding T F) → AbleOver never (FoldingSifts call) CanFold Come v → FoldsOver call Come v.value v.f
-  folds_over Come v able = record {
+  pub folds_over : {S : Type 0} (gives : S → List X → Type 0) (s : S) (v : Folding T F) → AbleOver never (FoldingSifts call) CanFold gives s v → FoldsOver call gives s v.value v.f
+  folds_over gives s v able = record {
     at = λ xs x t q come is chain.
         let (w, has, func, are) = taken_of xs v t q is chain in
         subst (λ f. call.pre f (q.1, (x, tt))) func ((able.at xs [] x w come are refl).1 q.1 has);

@@ -23,15 +23,15 @@ module _ {V X Y : Type 0} (done : V → Bool) (sifts : V → X → Option Y → 
   pub none_taken : (Come : List X → Type 0) (v : V) → Taken done sifts Come Come v v
   none_taken Come v = record { items = []; follow = λ xs h. h; sifted = (refl, refl) }
 
-  pub able_here : (can_sift : V → X → Type 0) (Before Later : List X → Type 0) (v : V) (x : X) → AbleOver done sifts can_sift Before v → ((xs : List X) → Later xs → Before (x ∷ xs)) → Later [] → done v ≡ false → can_sift v x
-  able_here can_sift Before Later v x able follow none unfinished = able.at [] [] x v (follow [] none) (refl, refl) unfinished
+  pub able_here : {S : Type 0} (can_sift : V → X → Type 0) (gives : S → List X → Type 0) (s t : S) (v : V) (x : X) → AbleOver done sifts can_sift gives s v → ((xs : List X) → MayCome gives t xs → MayCome gives s (x ∷ xs)) → MayCome gives t [] → done v ≡ false → can_sift v x
+  able_here can_sift gives s t v x able follow none unfinished = able.at [] [] x v (follow [] none) (refl, refl) unfinished
 
-  module _ (can_sift : V → X → Type 0) (Before Later : List X → Type 0) (v w : V) where
-    pub able_after : (x : X) (y : Option Y) → AbleOver done sifts can_sift Before v → ((xs : List X) → Later xs → Before (x ∷ xs)) → done v ≡ false → sifts v x y w → AbleOver done sifts can_sift Later w
+  module _ {S : Type 0} (can_sift : V → X → Type 0) (gives : S → List X → Type 0) (s t : S) (v w : V) where
+    pub able_after : (x : X) (y : Option Y) → AbleOver done sifts can_sift gives s v → ((xs : List X) → MayCome gives t xs → MayCome gives s (x ∷ xs)) → done v ≡ false → sifts v x y w → AbleOver done sifts can_sift gives t w
     able_after x y able follow unfinished one =
         record { at = λ xs ys z u come chain last. able.at (x ∷ xs) (cons_option y ys) z u (follow (xs ++ z ∷ []) come) (unfinished, y, w, one, ys, refl, chain) last }
 
-    pub able_still : AbleOver done sifts can_sift Before v → ((xs : List X) → Later xs → Before xs) → w ≡ v → AbleOver done sifts can_sift Later w
+    pub able_still : AbleOver done sifts can_sift gives s v → ((xs : List X) → MayCome gives t xs → MayCome gives s xs) → w ≡ v → AbleOver done sifts can_sift gives t w
     able_still able follow same =
         record { at = λ xs ys z u come chain last. able.at xs ys z u (follow (xs ++ z ∷ []) come) (subst (λ k. AreSifted done sifts k xs ys u) same chain) last }
 
@@ -64,25 +64,22 @@ module _ {V X Y : Type 0} (done : V → Bool) (sifts : V → X → Option Y → 
 
   module _ {S : Type 0} (gives : S → List X → Type 0) (m n : Sifted S V) where
     none_sifted : SiftedGives gives done sifts n []
-    none_sifted = (n.sieve, record { items = []; may = tt; sifted = (refl, refl) })
+    none_sifted = record { items = []; may = tt; after = n.sieve; sifted = (refl, refl) }
 
     pub found_on : (y : Y) → Finds done sifts y (MayCome gives m.stream) (MayCome gives n.stream) m.sieve n.sieve → (ys : List Y) → MayCome (SiftedGives gives done sifts) n ys → SiftedGives gives done sifts m (y ∷ ys)
     found_on y found ys may =
-        let (u, later) = any_come (SiftedGives gives done sifts) n none_sifted ys may in (
-          u,
-          record {
-            items = found.items ++ found.item ∷ later.items;
-            may = found.follow later.items later.may;
-            sifted = sifted_then found.items m.sieve found.sieve [] found.passed (found.item ∷ later.items) (y ∷ ys) u (found.unfinished, Some y, n.sieve, found.sifted, ys, refl, later.sifted);
-          },
-        )
+        let later = any_come (SiftedGives gives done sifts) n none_sifted ys may in
+        record {
+          items = found.items ++ found.item ∷ later.items;
+          may = found.follow later.items later.may;
+          after = later.after;
+          sifted = sifted_then found.items m.sieve found.sieve [] found.passed (found.item ∷ later.items) (y ∷ ys) later.after (found.unfinished, Some y, n.sieve, found.sifted, ys, refl, later.sifted);
+        }
 
     pub taken_on : Taken done sifts (MayCome gives m.stream) (MayCome gives n.stream) m.sieve n.sieve → (y : Y) (ys : List Y) → SiftedGives gives done sifts n (y ∷ ys) → SiftedGives gives done sifts m (y ∷ ys)
-    taken_on taken y ys (u, later) = (
-      u,
-      record {
-        items = taken.items ++ later.items;
-        may = taken.follow later.items later.may;
-        sifted = sifted_then taken.items m.sieve n.sieve [] taken.sifted later.items (y ∷ ys) u later.sifted;
-      },
-    )
+    taken_on taken y ys later = record {
+      items = taken.items ++ later.items;
+      may = taken.follow later.items later.may;
+      after = later.after;
+      sifted = sifted_then taken.items m.sieve n.sieve [] taken.sifted later.items (y ∷ ys) later.after later.sifted;
+    }

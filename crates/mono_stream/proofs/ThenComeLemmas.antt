@@ -12,20 +12,20 @@ use Rattle.mono_stream.proofs.ComeLemmas.{wait_all}
 pub none_live : {Fut C Y : Type 0} (future : FutureOf Fut C Y) (made : Option Fut) → made ≡ None → HeldIsLive future made
 none_live future made none = subst (λ m. HeldIsLive future m) (sym none) tt
 
-module _ {F Fut C X Y : Type 0} (future : FutureOf Fut C Y) (call : Mut F (X × Unit {0}) Fut) (Before Later : List X → Type 0) where
-  pub live_here : (x : X) (f : F) (g : Fut) (h : F) → MakesLive future call Before f → ((xs : List X) → Later xs → Before (x ∷ xs)) → Later [] → Called call f (x, tt) g h → IsLive future g
+module _ {S F Fut C X Y : Type 0} (future : FutureOf Fut C Y) (call : Mut F (X × Unit {0}) Fut) (gives : S → List X → Type 0) (s t : S) where
+  pub live_here : (x : X) (f : F) (g : Fut) (h : F) → MakesLive future call gives s f → ((xs : List X) → MayCome gives t xs → MayCome gives s (x ∷ xs)) → MayCome gives t [] → Called call f (x, tt) g h → IsLive future g
   live_here x f g h makes follow none called = makes.live [] x f g h (follow [] none) refl called
 
-  pub can_make : (x : X) (f : F) → MakesLive future call Before f → ((xs : List X) → Later xs → Before (x ∷ xs)) → Later [] → call.pre f (x, tt)
+  pub can_make : (x : X) (f : F) → MakesLive future call gives s f → ((xs : List X) → MayCome gives t xs → MayCome gives s (x ∷ xs)) → MayCome gives t [] → call.pre f (x, tt)
   can_make x f makes follow none = makes.can_call [] x f (follow [] none) refl
 
-  pub live_after : (x : X) (f : F) (g : Fut) (h : F) → MakesLive future call Before f → ((xs : List X) → Later xs → Before (x ∷ xs)) → Called call f (x, tt) g h → MakesLive future call Later h
+  pub live_after : (x : X) (f : F) (g : Fut) (h : F) → MakesLive future call gives s f → ((xs : List X) → MayCome gives t xs → MayCome gives s (x ∷ xs)) → Called call f (x, tt) g h → MakesLive future call gives t h
   live_after x f g h makes follow called = record {
     can_call = λ xs z k come chain. makes.can_call (x ∷ xs) z k (follow (xs ++ z ∷ []) come) (h, (g, called), chain);
     live = λ xs z k made l come chain. makes.live (x ∷ xs) z k made l (follow (xs ++ z ∷ []) come) (h, (g, called), chain);
   }
 
-  pub live_still : (f : F) → MakesLive future call Before f → ((xs : List X) → Later xs → Before xs) → MakesLive future call Later f
+  pub live_still : (f : F) → MakesLive future call gives s f → ((xs : List X) → MayCome gives t xs → MayCome gives s xs) → MakesLive future call gives t f
   live_still f makes follow = record {
     can_call = λ xs z k come chain. makes.can_call xs z k (follow (xs ++ z ∷ []) come) chain;
     live = λ xs z k made l come chain. makes.live xs z k made l (follow (xs ++ z ∷ []) come) chain;

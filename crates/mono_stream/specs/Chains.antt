@@ -37,9 +37,9 @@ module _ {Fut C Y : Type 0} (future : FutureOf Fut C Y) where
 module _ {F Fut C X Y : Type 0} (future : FutureOf Fut C Y) (call : Mut F (X × Unit {0}) Fut) where
   -- The closure may be called at each item that may come, once it was called at the items before, and the future that
   -- it makes may be polled.
-  pub record MakesLive (Come : List X → Type 0) (f : F) : Type 0 where
-    pub can_call : (xs : List X) (x : X) (g : F) → Come (xs ++ x ∷ []) → FoldsTo (SomeCall call) f xs g → call.pre g (x, tt)
-    pub live : (xs : List X) (x : X) (g : F) (made : Fut) (h : F) → Come (xs ++ x ∷ []) → FoldsTo (SomeCall call) f xs g → Called call g (x, tt) made h → IsLive future made
+  pub record MakesLive {S : Type 0} (gives : S → List X → Type 0) (s : S) (f : F) : Type 0 where
+    pub can_call : (xs : List X) (x : X) (g : F) → MayCome gives s (xs ++ x ∷ []) → FoldsTo (SomeCall call) f xs g → call.pre g (x, tt)
+    pub live : (xs : List X) (x : X) (g : F) (made : Fut) (h : F) → MayCome gives s (xs ++ x ∷ []) → FoldsTo (SomeCall call) f xs g → Called call g (x, tt) made h → IsLive future made
 
   abbrev pub AfterNext : Poll (Option X) → F → C → Poll (Option Y) → F → Option Fut → C → Type 0
   AfterNext (Ready (Some x)) f c r f' made d = (g : Fut) × Called call f (x, tt) g f' × Finishes future g c r made d

@@ -22,5 +22,5 @@ module _ {F X Y : Type 0} (call : Mut F (X × Unit {0}) Y) where
   SomeCall f x g = (y : Y) × Called call f (x, tt) y g
 
   -- The closure may be called at each item that may come, once it was called at the items before.
-  pub record CallableOver (Come : List X → Type 0) (f : F) : Type 0 where
-    pub at : (xs : List X) (x : X) (g : F) → Come (xs ++ x ∷ []) → FoldsTo SomeCall f xs g → call.pre g (x, tt)
+  pub record CallableOver {S : Type 0} (gives : S → List X → Type 0) (s : S) (f : F) : Type 0 where
+    pub at : (xs : List X) (x : X) (g : F) → MayCome gives s (xs ++ x ∷ []) → FoldsTo SomeCall f xs g → call.pre g (x, tt)

@@ -32,8 +32,8 @@ module _ {F T X : Type 0} (call : Mut F (T × (X × Unit {0})) T) where
   Combines p x q = Called call p.0 (p.1, (x, tt)) q.1 q.0
 
   -- The closure may be called at each item that may come, and at the value that it made of the items before.
-  pub record FoldsOver (Come : List X → Type 0) (value : Option T) (f : F) : Type 0 where
-    pub at : (xs : List X) (x : X) (t : T) (q : F × T) → Come (xs ++ x ∷ []) → value ≡ Some t → FoldsTo Combines (f, t) xs q → call.pre q.0 (q.1, (x, tt))
+  pub record FoldsOver {S : Type 0} (gives : S → List X → Type 0) (s : S) (value : Option T) (f : F) : Type 0 where
+    pub at : (xs : List X) (x : X) (t : T) (q : F × T) → MayCome gives s (xs ++ x ∷ []) → value ≡ Some t → FoldsTo Combines (f, t) xs q → call.pre q.0 (q.1, (x, tt))
 
   abbrev pub FoldingSifts : Folding T F → X → Option (Unit {0}) → Folding T F → Type 0
   FoldingSifts v x y w = FoldSifts v.value v.f x y w.value w.f

@@ -8,8 +8,8 @@ use Rattle.mono_stream.specs.declared.sifts.Sifted.{Sifted}
 
 module _ {V X Y : Type 0} (done : V → Bool) (sifts : V → X → Option Y → V → Type 0) where
   -- The sieve may take each item that may come, once it has taken the items before and is not done.
-  pub record AbleOver (can_sift : V → X → Type 0) (Come : List X → Type 0) (v : V) : Type 0 where
-    pub at : (xs : List X) (ys : List Y) (x : X) (w : V) → Come (xs ++ x ∷ []) → AreSifted done sifts v xs ys w → done w ≡ false → can_sift w x
+  pub record AbleOver {S : Type 0} (can_sift : V → X → Type 0) (gives : S → List X → Type 0) (s : S) (v : V) : Type 0 where
+    pub at : (xs : List X) (ys : List Y) (x : X) (w : V) → MayCome gives s (xs ++ x ∷ []) → AreSifted done sifts v xs ys w → done w ≡ false → can_sift w x
 
   -- The sieve returns these values for items that may come.
   pub record SiftsTo (Come : List X → Type 0) (v : V) (ys : List Y) (w : V) : Type 0 where
@@ -41,5 +41,8 @@ module _ {V X Y : Type 0} (done : V → Bool) (sifts : V → X → Option Y → 
   SiftsOn Many Before Later v w = Taken Before Later v w
 
 -- The values of items that may come.
-abbrev pub SiftedGives : {S V X Y : Type 0} → (S → List X → Type 0) → (V → Bool) → (V → X → Option Y → V → Type 0) → Sifted S V → List Y → Type 0
-SiftedGives {S} {V} gives done sifts m ys = (w : V) × SiftsTo done sifts (MayCome gives m.stream) m.sieve ys w
+pub record SiftedGives {S V X Y : Type 0} (gives : S → List X → Type 0) (done : V → Bool) (sifts : V → X → Option Y → V → Type 0) (m : Sifted S V) (ys : List Y) : Type 0 where
+  pub items : List X
+  pub may : MayCome gives m.stream items
+  pub after : V
+  pub sifted : AreSifted done sifts m.sieve items ys after

@@ -1,7 +1,6 @@
 // A stream of the outputs of the futures that a closure makes of the items.
 ghost use Rattle.std.specs.Prelude.{None};
 ghost use Rattle.mono_stream.specs.Chains.{ThenPolls, ThenGives, ThenCancels, HeldIsLive, IsLive, MakesLive, Finishes, FinishGives};
-ghost use Rattle.mono_stream.specs.Comes.{MayCome};
 
 use crate::streams::Stream;
 use mono_model::{Host, Poll};
@@ -51,7 +50,7 @@ where
 {
     type Item = Fut::Output;
 
-    ghost can_poll = { λ t. S.can_poll t.stream × HeldIsLive Fut.TaskFuture t.made × MakesLive Fut.TaskFuture F.FnMut (MayCome S.gives t.stream) t.f };
+    ghost can_poll = { λ t. S.can_poll t.stream × HeldIsLive Fut.TaskFuture t.made × MakesLive Fut.TaskFuture F.FnMut S.gives t.stream t.f };
 
     ghost polls = { ThenPolls S.Stream Fut.TaskFuture F.FnMut };
 

@@ -1,7 +1,6 @@
 // A future that combines the items of a stream.
 ghost use Rattle.std.specs.Prelude.{false, IsSome};
 ghost use Rattle.std.specs.Bool.{OnFalse};
-ghost use Rattle.mono_stream.specs.Comes.{MayCome};
 ghost use Rattle.mono_stream.specs.Folds.{is_nothing, FoldSifts, FoldsAt, FoldsOver, FoldPolls, FoldGives};
 
 use crate::sieves::Sieve;
@@ -60,7 +59,7 @@ where
 
     ghost is_spent = { λ f. is_nothing f.folding.value };
 
-    ghost can_poll = { λ f. OnFalse (is_nothing f.folding.value) (S.can_poll f.stream × FoldsOver F.FnMut (MayCome S.gives f.stream) f.folding.value f.folding.f) };
+    ghost can_poll = { λ f. OnFalse (is_nothing f.folding.value) (S.can_poll f.stream × FoldsOver F.FnMut S.gives f.stream f.folding.value f.folding.f) };
 
     ghost polls = { FoldPolls S.polls F.FnMut C.number C.wakes };
 

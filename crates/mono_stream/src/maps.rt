@@ -1,6 +1,6 @@
 // A stream of a closure's answers for the items.
 ghost use Rattle.std.specs.Prelude.{None};
-ghost use Rattle.mono_stream.specs.Comes.{MayCome, CallableOver};
+ghost use Rattle.mono_stream.specs.Comes.{CallableOver};
 ghost use Rattle.mono_stream.specs.Maps.{MapPolls, MapGives};
 
 use crate::streams::Stream;
@@ -25,7 +25,7 @@ where
 {
     type Item = T;
 
-    ghost can_poll = { λ m. S.can_poll m.stream × CallableOver F.FnMut (MayCome S.gives m.stream) m.f };
+    ghost can_poll = { λ m. S.can_poll m.stream × CallableOver F.FnMut S.gives m.stream m.f };
 
     ghost polls = { MapPolls S.Stream F.FnMut };
 

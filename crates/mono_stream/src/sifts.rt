@@ -28,11 +28,11 @@ pub(crate) fn sift_some<R: Host, C: Context, S: Stream<C>, V: Sieve<S::Item>>(
     sieve: &mut V,
 ) -> Outcome<V::Output>
     requires callable { S.can_poll stream.old }
-    requires able { AbleOver V.done V.sifts V.can_sift (MayCome S.gives stream.old) sieve.old }
+    requires able { AbleOver V.done V.sifts V.can_sift S.gives stream.old sieve.old }
     ensures sifts { Sifts S.polls V.done V.sifts stream.old sieve.old cx.old result stream.new sieve.new cx.new }
     ensures given { SiftsOn V.done V.sifts result (MayCome S.gives stream.old) (MayCome S.gives stream.new) sieve.old sieve.new }
     ensures callable { UnlessOver result (S.can_poll stream.new) }
-    ensures able { UnlessOver result (AbleOver V.done V.sifts V.can_sift (MayCome S.gives stream.new) sieve.new) }
+    ensures able { UnlessOver result (AbleOver V.done V.sifts V.can_sift S.gives stream.new sieve.new) }
     ensures reached { C.reaches cx.old cx.new }
 {
     for _i in 0..256u32 {
@@ -70,7 +70,7 @@ where
 {
     type Item = V::Output;
 
-    ghost can_poll = { λ m. S.can_poll m.stream × AbleOver V.done V.sifts V.can_sift (MayCome S.gives m.stream) m.sieve };
+    ghost can_poll = { λ m. S.can_poll m.stream × AbleOver V.done V.sifts V.can_sift S.gives m.stream m.sieve };
 
     ghost polls = { SiftedPolls S.polls V.done V.sifts C.number C.wakes };
 

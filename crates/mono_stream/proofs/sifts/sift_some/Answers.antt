@@ -74,7 +74,7 @@ loop-i-preserved g c = record {
   taken = taken_more g.V.Sieve.done g.V.Sieve.sifts _ _ _ _ _ _ _ c.loop-i.invariant.taken (rw (c.in-Ready-Some.is, c.in-Ready-Some.field-0-is) at c.poll_next.ensures.given) (sym c.is_done.ensures ∙ c.if-is_done.false)
       (rw c.in-None.is at c.sift.ensures);
   callable = rw (c.in-Ready-Some.is, c.in-Ready-Some.field-0-is) at c.poll_next.ensures.callable;
-  able = able_after g.V.Sieve.done g.V.Sieve.sifts g.V.Sieve.can_sift _ _ _ _ _ _ c.loop-i.invariant.able (rw (c.in-Ready-Some.is, c.in-Ready-Some.field-0-is) at c.poll_next.ensures.given)
+  able = able_after g.V.Sieve.done g.V.Sieve.sifts g.V.Sieve.can_sift _ _ _ _ _ _ _ c.loop-i.invariant.able (rw (c.in-Ready-Some.is, c.in-Ready-Some.field-0-is) at c.poll_next.ensures.given)
       (sym c.is_done.ensures ∙ c.if-is_done.false) c.sift.ensures;
   reached = g.met.C.Context.reaches_on _ _ _ c.loop-i.invariant.reached c.poll_next.ensures.reached;
 }
@@ -100,7 +100,7 @@ loop-i-init g c = record {
 
 pub sift-requires-clause-able : goal.sift-requires-clause-able
 sift-requires-clause-able g c =
-    able_here g.V.Sieve.done g.V.Sieve.sifts g.V.Sieve.can_sift _ _ _ _ c.loop-i.invariant.able (rw (c.in-Ready-Some.is, c.in-Ready-Some.field-0-is) at c.poll_next.ensures.given) tt (sym c.is_done.ensures ∙ c.if-is_done.false)
+    able_here g.V.Sieve.done g.V.Sieve.sifts g.V.Sieve.can_sift _ _ _ _ _ c.loop-i.invariant.able (rw (c.in-Ready-Some.is, c.in-Ready-Some.field-0-is) at c.poll_next.ensures.given) tt (sym c.is_done.ensures ∙ c.if-is_done.false)
 
 pub returns-then-is_done-clause-given : goal.returns-then-is_done-clause-given
 returns-then-is_done-clause-given g c = c.loop-i.invariant.taken
@@ -112,7 +112,7 @@ returns-in-Some-clause-given g c =
 
 pub returns-in-Some-clause-able : goal.returns-in-Some-clause-able
 returns-in-Some-clause-able g c =
-    able_after g.V.Sieve.done g.V.Sieve.sifts g.V.Sieve.can_sift _ _ _ _ _ _ c.loop-i.invariant.able (rw (c.in-Ready-Some.is, c.in-Ready-Some.field-0-is) at c.poll_next.ensures.given)
+    able_after g.V.Sieve.done g.V.Sieve.sifts g.V.Sieve.can_sift _ _ _ _ _ _ _ c.loop-i.invariant.able (rw (c.in-Ready-Some.is, c.in-Ready-Some.field-0-is) at c.poll_next.ensures.given)
     (sym c.is_done.ensures ∙ c.if-is_done.false) c.sift.ensures
 
 pub returns-in-Ready-None-clause-given : goal.returns-in-Ready-None-clause-given
@@ -122,7 +122,7 @@ pub returns-in-Pending-clause-given : goal.returns-in-Pending-clause-given
 returns-in-Pending-clause-given g c = taken_still g.V.Sieve.done g.V.Sieve.sifts _ _ _ _ _ c.loop-i.invariant.taken (wait_all g.S.Stream.gives _ _ (rw c.in-Pending.is at c.poll_next.ensures.given))
 
 pub returns-in-Pending-clause-able : goal.returns-in-Pending-clause-able
-returns-in-Pending-clause-able g c = able_still g.V.Sieve.done g.V.Sieve.sifts g.V.Sieve.can_sift _ _ _ _ c.loop-i.invariant.able (wait_all g.S.Stream.gives _ _ (rw c.in-Pending.is at c.poll_next.ensures.given)) refl
+returns-in-Pending-clause-able g c = able_still g.V.Sieve.done g.V.Sieve.sifts g.V.Sieve.can_sift _ _ _ _ _ c.loop-i.invariant.able (wait_all g.S.Stream.gives _ _ (rw c.in-Pending.is at c.poll_next.ensures.given)) refl
 
 pub returns-clause-given : goal.returns-clause-given
 returns-clause-given g c = c.loop-i.invariant.taken

@@ -11,6 +11,6 @@ invariant-loop-i g l = record {
       → Passes g.S.Stream.polls g.V.Sieve.done g.V.Sieve.sifts (l._i + n) l.initial.stream l.initial.sieve l.initial.cx t w d;
   taken : Taken g.V.Sieve.done g.V.Sieve.sifts (MayCome g.S.Stream.gives l.initial.stream) (MayCome g.S.Stream.gives l.stream) l.initial.sieve l.sieve;
   callable : g.S.Stream.can_poll l.stream;
-  able : AbleOver g.V.Sieve.done g.V.Sieve.sifts g.V.Sieve.can_sift (MayCome g.S.Stream.gives l.stream) l.sieve;
+  able : AbleOver g.V.Sieve.done g.V.Sieve.sifts g.V.Sieve.can_sift g.S.Stream.gives l.stream l.sieve;
   reached : g.C.Context.reaches l.initial.cx l.cx;
 }

@@ -33,7 +33,7 @@ returns-in-Waits-clause-same g c = fold_waits g.S.Stream.gives g.F.FnMut c.args.
 pub returns-in-Waits-clause-callable : goal.returns-in-Waits-clause-callable
 returns-in-Waits-clause-callable g c =
     both_if _ (still_some g.F.FnMut _ _ c.args.self.now.folding c.sift_some.new.sieve c.requires.unspent (rw c.in-Waits.is at c.sift_some.ensures.given)) (rw c.in-Waits.is at c.sift_some.ensures.callable)
-    (folds_over g.F.FnMut _ c.sift_some.new.sieve (rw c.in-Waits.is at c.sift_some.ensures.able))
+    (folds_over g.F.FnMut _ _ c.sift_some.new.sieve (rw c.in-Waits.is at c.sift_some.ensures.able))
 
 pub returns-in-Many-clause-again : goal.returns-in-Many-clause-again
 returns-in-Many-clause-again g c = still_some g.F.FnMut _ _ c.args.self.now.folding c.sift_some.new.sieve c.requires.unspent (rw c.in-Many.is at c.sift_some.ensures.given)
@@ -44,7 +44,7 @@ returns-in-Many-clause-same g c = fold_waits g.S.Stream.gives g.F.FnMut c.args.s
 pub returns-in-Many-clause-callable : goal.returns-in-Many-clause-callable
 returns-in-Many-clause-callable g c =
     both_if _ (still_some g.F.FnMut _ _ c.args.self.now.folding c.sift_some.new.sieve c.requires.unspent (rw c.in-Many.is at c.sift_some.ensures.given)) (rw c.in-Many.is at c.sift_some.ensures.callable)
-    (folds_over g.F.FnMut _ c.sift_some.new.sieve (rw c.in-Many.is at c.sift_some.ensures.able))
+    (folds_over g.F.FnMut _ _ c.sift_some.new.sieve (rw c.in-Many.is at c.sift_some.ensures.able))
 
 pub returns-in-Many-clause-reached : goal.returns-in-Many-clause-reached
 returns-in-Many-clause-reached g c = g.met.C.Context.reaches_on _ _ _ c.sift_some.ensures.reached c.wake_me.ensures.reached
@@ -53,7 +53,7 @@ pub sift_some-requires-clause-callable : goal.sift_some-requires-clause-callable
 sift_some-requires-clause-callable g c = (both_of _ c.requires.unspent c.requires.callable).0
 
 pub sift_some-requires-clause-able : goal.sift_some-requires-clause-able
-sift_some-requires-clause-able g c = able_to_fold g.F.FnMut _ c.args.self.now.folding c.requires.unspent (both_of _ c.requires.unspent c.requires.callable).1
+sift_some-requires-clause-able g c = able_to_fold g.F.FnMut _ _ c.args.self.now.folding c.requires.unspent (both_of _ c.requires.unspent c.requires.callable).1
 
 pub unwrap-value-requires : goal.unwrap-value-requires
 unwrap-value-requires g c = some_at_end g.F.FnMut _ c.args.self.now.folding c.sift_some.new.sieve c.requires.unspent (rw c.in-Ended.is at c.sift_some.ensures.given) c.take.result c.take.ensures.value
