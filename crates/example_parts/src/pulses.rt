@@ -67,8 +67,7 @@ impl<C: TimeContext> TaskFuture<C> for Pulse {
                 match self.delay.reset(cx, next) {
                     Ok(()) => {
                         self.left -= 1;
-                        let me = cx.me();
-                        let _ = cx.wake(me);
+                        cx.wake_me();
                         Poll::Pending
                     }
                     Err(error) => {

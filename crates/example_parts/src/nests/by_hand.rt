@@ -48,8 +48,7 @@ impl<C: Context> TaskFuture<C> for Countdown {
             return Poll::Ready(self.value);
         }
         self.left -= 1;
-        let me = cx.me();
-        let _ = cx.wake(me);
+        cx.wake_me();
         Poll::Pending
     }
 
