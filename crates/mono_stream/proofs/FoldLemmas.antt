@@ -1,17 +1,15 @@
--- A value that is there.
-use Rattle.std.proofs.Common.{◌≡◌, Bool, true, false, Option, Some, None, refl}
-use Rattle.std.specs.Prelude.{IsSome}
+-- Two facts of a future that is not spent.
+use Rattle.std.proofs.Common.{◌≡◌, Bool, true, false, sym}
 use Rattle.std.specs.Bool.{OnFalse}
-use Rattle.mono_stream.specs.Folds.{is_nothing}
 
 never : {P : Type 0} → false ≡ true → P
 never e = absurd (cc)
-
-pub is_there : {T : Type 0} (o : Option T) → IsSome o → is_nothing o ≡ false
-is_there (Some t) some = refl
-is_there None some = never some
 
 -- Both facts hold in the case that is there.
 pub both_if : {P Q : Type 0} (b : Bool) → b ≡ false → P → Q → OnFalse b (P × Q)
 both_if false is p q = (p, q)
 both_if true is p q = tt
+
+pub both_of : {P Q : Type 0} (b : Bool) → b ≡ false → OnFalse b (P × Q) → P × Q
+both_of false is h = h
+both_of true is h = never (sym is)

@@ -1,8 +1,9 @@
 -- The items of two streams, one stream after the other.
-use Rattle.std.specs.Prelude.{◌≡◌, Option, Some, None}
+use Rattle.std.specs.Prelude.{◌≡◌, List, ◌++◌, Option, Some, None}
 use Rattle.mono_model.specs.declared.poll.Poll.{Poll}
 use Rattle.mono_model.specs.declared.poll.Poll.TheVariants.{Ready, Pending}
-use Rattle.mono_stream.specs.Sides.{SidePolls, SideCancels}
+use Rattle.mono_stream.specs.Comes.{MayCome}
+use Rattle.mono_stream.specs.Sides.{SidePolls, SideMayCome, SideCancels}
 use Rattle.mono_stream.specs.declared.appends.Chain.{Chain}
 
 module _ {A B C X : Type 0} (polls : A → C → Poll (Option X) → A → C → Type 0) (cancels : A → C → C → Type 0) (second_polls : B → C → Poll (Option X) → B → C → Type 0) where
@@ -21,3 +22,12 @@ module _ {A B C X : Type 0} (polls : A → C → Poll (Option X) → A → C →
 module _ {A B C : Type 0} (cancels : A → C → C → Type 0) (second_cancels : B → C → C → Type 0) where
   abbrev pub ChainCancels : Chain A B → C → C → Type 0
   ChainCancels m c d = (middle : C) × SideCancels cancels m.first c middle × second_cancels m.second middle d
+
+module _ {A B X : Type 0} (gives : A → List X → Type 0) (second_gives : B → List X → Type 0) where
+  -- Items of the first stream, and items of the second after them.
+  pub record ChainGives (m : Chain A B) (zs : List X) : Type 0 where
+    pub firsts : List X
+    pub seconds : List X
+    pub first : SideMayCome gives m.first firsts
+    pub second : MayCome second_gives m.second seconds
+    pub are : zs ≡ firsts ++ seconds

@@ -1,10 +1,11 @@
 -- Items that are collected.
-use Rattle.std.specs.Prelude.{◌≡◌, ℕ, Bool, true, false, [], ◌∷◌, ◌++◌, Option, Some, None, Result, Ok, Err}
+use Rattle.std.specs.Prelude.{◌≡◌, ℕ, Bool, true, false, List, [], ◌∷◌, ◌++◌, Option, Some, None, Result, Ok, Err}
 use Rattle.std.specs.Global.{Vec}
 use Rattle.mono_model.specs.declared.Woke.{Woke}
 use Rattle.mono_model.specs.declared.task_error.TaskError.{TaskError}
 use Rattle.mono_model.specs.declared.poll.Poll.{Poll}
 use Rattle.mono_model.specs.declared.poll.Poll.TheVariants.{Ready, Pending}
+use Rattle.mono_stream.specs.Comes.{MayCome}
 use Rattle.mono_stream.specs.Sifts.{Sifts}
 use Rattle.mono_stream.specs.declared.collects.Collecting.{Collecting}
 use Rattle.mono_stream.specs.declared.collects.Collect.{Collect}
@@ -37,3 +38,14 @@ module _ {S C X : Type 0} (polls : S → C → Poll (Option X) → S → C → T
     pub middle : C
     pub taken : Sifts polls (λ v. false) CollectingSifts f.stream f.collecting c outcome g.stream collected middle
     pub after : AfterCollected number wakes outcome collected.items middle r g.collecting.items g.has_ended d
+
+-- The items of an answer.
+abbrev pub answered : {X : Type 0} → Result (Vec X) (Uncollected X) → List X
+answered (Ok all) = all.items
+answered (Err some) = some.items.items ++ some.refused ∷ []
+
+-- The items of the answer are those that were there before, and items that may come.
+pub record CollectGives {S X : Type 0} (gives : S → List X → Type 0) (f : Collect S X) (answer : Result (Vec X) (Uncollected X)) : Type 0 where
+  pub items : List X
+  pub may : MayCome gives f.stream items
+  pub are : answered answer ≡ f.collecting.items.items ++ items

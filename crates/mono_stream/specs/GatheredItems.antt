@@ -1,10 +1,11 @@
 -- The items of a stream that a future gathers, over consecutive polls.
 use Rattle.std.specs.Prelude.{◌≡◌, ℕ, zero, suc, Bool, true, false, List, [], ◌∷◌, ◌++◌, Option, Result, Ok, Err}
-use Rattle.std.specs.Fn.{Mut, Called}
+use Rattle.std.specs.Fn.{Mut}
 use Rattle.std.specs.Global.{Vec}
 use Rattle.std.specs.List.{FoldsTo}
 use Rattle.mono_model.specs.declared.poll.Poll.{Poll}
 use Rattle.mono_model.specs.declared.poll.Poll.TheVariants.{Ready, Pending}
+use Rattle.mono_stream.specs.Folds.{Combines}
 use Rattle.mono_stream.specs.Items.{Gives}
 use Rattle.mono_stream.specs.declared.collects.Uncollected.{Uncollected}
 
@@ -21,10 +22,6 @@ module _ {G C Y : Type 0} (polls : G → C → Poll Y → G → C → Type 0) wh
   Outputs (suc n) old y = (left : G) × Tries old Pending left × Outputs n left y
 
 module _ {S F C T X : Type 0} (polls : S → C → Poll (Option X) → S → C → Type 0) (call : Mut F (T × (X × Unit {0})) T) where
-  -- The closure was called at the value so far and an item.
-  abbrev pub Combines : F × T → X → F × T → Type 0
-  Combines p x q = Called call p.0 (p.1, (x, tt)) q.1 q.0
-
   -- The stream gave items and ended, and the closure combined them in order into the last value.
   pub record FoldsItems (old : S) (f : F) (first last : T) : Type 0 where
     pub count : ℕ
@@ -32,7 +29,7 @@ module _ {S F C T X : Type 0} (polls : S → C → Poll (Option X) → S → C �
     pub left : S
     pub given : Gives polls count old items true left
     pub after : F
-    pub folded : FoldsTo Combines (f, first) items (after, last)
+    pub folded : FoldsTo (Combines call) (f, first) items (after, last)
 
 -- All of the items, after the end; or all of them, the last of which was refused, and no end.
 abbrev pub AreCollected : {X : Type 0} → Result (Vec X) (Uncollected X) → List X → Bool → Type 0

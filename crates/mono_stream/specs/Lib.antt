@@ -1,4 +1,5 @@
 pub mod Ends
+pub mod Comes
 pub mod Members
 pub mod Iterators
 pub mod Maps
@@ -16,6 +17,8 @@ pub mod Zips
 pub mod Folds
 pub mod Collects
 pub mod SiftedItems
+pub mod SiftedComes
+pub mod ComeRules
 pub mod JoinedItems
 pub mod GatheredItems
 pub mod FutureOutputs

@@ -1,8 +1,10 @@
 -- A stream of a closure's answers for the items.
-use Rattle.std.specs.Prelude.{◌≡◌, Option, Some, None}
+use Rattle.std.specs.Prelude.{◌≡◌, List, Option, Some, None}
 use Rattle.std.specs.Fn.{Mut, Called}
 use Rattle.mono_model.specs.declared.poll.Poll.{Poll}
 use Rattle.mono_model.specs.declared.poll.Poll.TheVariants.{Ready, Pending}
+use Rattle.mono_stream.specs.Comes.{MayCome}
+use Rattle.mono_stream.specs.Items.{AreImages}
 use Rattle.mono_stream.specs.Members.{StreamOf}
 use Rattle.mono_stream.specs.declared.maps.Map.{Map}
 
@@ -18,3 +20,11 @@ module _ {S F C X Y : Type 0} (stream : StreamOf S C X) (g : Mut F (X × Unit {0
     pub answer : Poll (Option X)
     pub polled : stream.polls m.stream c answer n.stream d
     pub answers : Answers g answer m.f r n.f
+
+module _ {S F X Y : Type 0} (gives : S → List X → Type 0) (g : Mut F (X × Unit {0}) Y) where
+  -- The images of items that may come.
+  pub record MapGives (m : Map S F) (ys : List Y) : Type 0 where
+    pub items : List X
+    pub may : MayCome gives m.stream items
+    pub after : F
+    pub images : AreImages g m.f items ys after

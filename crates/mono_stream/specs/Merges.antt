@@ -1,8 +1,9 @@
 -- The items of two streams, as they come.
-use Rattle.std.specs.Prelude.{◌≡◌, Bool, true, false, Option, Some, None}
+use Rattle.std.specs.Prelude.{◌≡◌, Bool, true, false, List, Option, Some, None}
 use Rattle.mono_model.specs.declared.poll.Poll.{Poll}
 use Rattle.mono_model.specs.declared.poll.Poll.TheVariants.{Ready, Pending}
-use Rattle.mono_stream.specs.Sides.{SidePolls, SideCancels}
+use Rattle.mono_stream.specs.JoinedItems.{Interleaves}
+use Rattle.mono_stream.specs.Sides.{SidePolls, SideMayCome, SideCancels}
 use Rattle.mono_stream.specs.declared.merges.Merge.{Merge}
 
 -- The answer of the stream that is polled after one that waits.
@@ -36,3 +37,15 @@ module _ {A B C X : Type 0} (polls : A → C → Poll (Option X) → A → C →
 module _ {A B C : Type 0} (cancels : A → C → C → Type 0) (second_cancels : B → C → C → Type 0) where
   abbrev pub MergeCancels : Merge A B → C → C → Type 0
   MergeCancels m c d = (middle : C) × SideCancels cancels m.first c middle × SideCancels second_cancels m.second middle d
+
+module _ {A B X : Type 0} (gives : A → List X → Type 0) (far_gives : B → List X → Type 0) where
+  -- Items of both streams, each stream's in its order.
+  pub record BothGive (near : Option A) (far : Option B) (zs : List X) : Type 0 where
+    pub nears : List X
+    pub fars : List X
+    pub first : SideMayCome gives near nears
+    pub second : SideMayCome far_gives far fars
+    pub are : Interleaves nears fars zs
+
+  abbrev pub MergeGives : Merge A B → List X → Type 0
+  MergeGives m zs = BothGive m.first m.second zs

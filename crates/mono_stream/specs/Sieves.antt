@@ -1,5 +1,5 @@
 -- What sieves return for an item, and their state after it.
-use Rattle.std.specs.Prelude.{◌≡◌, ◌+◌, ◌-◌, ◌%◌, ◌^◌, ℕ, zero, suc, Bool, true, false, Option, Some, None}
+use Rattle.std.specs.Prelude.{◌≡◌, ◌+◌, ◌-◌, ◌%◌, ◌^◌, ℕ, zero, suc, ⊤, Bool, true, false, Option, Some, None}
 use Rattle.std.specs.Option.{is_none}
 use Rattle.std.specs.Fn.{Mut, Called, CalledAt, CalledWithState}
 use denote.Ref.{Bor, MutBor}
@@ -13,6 +13,15 @@ use Rattle.mono_stream.specs.declared.counts.Enumerating.{Enumerating}
 use Rattle.mono_stream.specs.declared.scans.Scanning.{Scanning}
 
 module _ {F X : Type 0} (call : Mut F (Bor X × Unit {0}) Bool) where
+  -- The closure may be called with a `&` to the item.
+  abbrev pub TestsAt : F → X → Type 0
+  TestsAt f x = (shown : Bor X) → shown.now ≡ x → call.pre f (shown, tt)
+
+  -- The same, unless an item was returned.
+  abbrev pub TestsUnless : Bool → F → X → Type 0
+  TestsUnless true f x = ⊤
+  TestsUnless false f x = TestsAt f x
+
   -- The item is returned if and only if the closure returned true.
   abbrev pub FilterSifts : F → X → Option X → F → Type 0
   FilterSifts f x (Some y) f' = (y ≡ x) × CalledAt call f x true f'
@@ -39,6 +48,10 @@ SkipSifts zero x y left = (y ≡ Some x) × (left ≡ zero)
 SkipSifts (suc n) x y left = (y ≡ None) × (left ≡ n)
 
 module _ {F A X Y : Type 0} (call : Mut F (MutBor A × (X × Unit {0})) (Option Y × (MutBor A × Unit {0}))) where
+  -- The closure may be called with a `&mut` to the state, and the item.
+  abbrev pub StepsAt : F → A → X → Type 0
+  StepsAt f a x = (lent : MutBor A) → lent.now ≡ a → call.pre f (lent, (x, tt))
+
   abbrev pub ScanSifts : F → A → X → Option Y → F → A → Bool → Type 0
   ScanSifts f a x y f' a' stopped = CalledWithState call f a x y f' a' × (stopped ≡ is_none y)
 

@@ -1,7 +1,9 @@
 -- The items of two streams in pairs.
-use Rattle.std.specs.Prelude.{◌≡◌, ⊤, Option, Some, None}
+use Rattle.std.specs.Prelude.{◌≡◌, ⊤, List, ◌++◌, map, Option, Some, None}
+use Rattle.std.specs.List.{cons_option}
 use Rattle.mono_model.specs.declared.poll.Poll.{Poll}
 use Rattle.mono_model.specs.declared.poll.Poll.TheVariants.{Ready, Pending}
+use Rattle.mono_stream.specs.Comes.{MayCome}
 use Rattle.mono_stream.specs.declared.zips.Filled.{Filled}
 use Rattle.mono_stream.specs.declared.zips.Filled.TheVariants.{Held, Ended, Waits}
 use Rattle.mono_stream.specs.declared.zips.Zip.{Zip}
@@ -58,3 +60,23 @@ module _ {A B C X Y : Type 0} (polls : A → C → Poll (Option X) → A → C �
 module _ {A B C X Y : Type 0} (cancels : A → C → C → Type 0) (second_cancels : B → C → C → Type 0) where
   abbrev pub ZipCancels : Zip A B X Y → C → C → Type 0
   ZipCancels m c d = (middle : C) × cancels m.first c middle × second_cancels m.second middle d
+
+-- The item that is held, and items that may come after it.
+pub record HeldComes {S X : Type 0} (gives : S → List X → Type 0) (s : S) (held : Option X) (xs : List X) : Type 0 where
+  pub items : List X
+  pub may : MayCome gives s items
+  pub are : xs ≡ cons_option held items
+
+-- The same holds after a poll for an item, unless the stream has ended.
+abbrev pub FillsOn : {S X : Type 0} → (S → List X → Type 0) → Filled → S → Option X → S → Option X → Type 0
+FillsOn {S} {X} gives Held s held t left = (xs : List X) → HeldComes gives t left xs → HeldComes gives s held xs
+FillsOn gives Ended s held t left = ⊤
+FillsOn {S} {X} gives Waits s held t left = (xs : List X) → HeldComes gives t left xs → HeldComes gives s held xs
+
+module _ {A B X Y : Type 0} (gives : A → List X → Type 0) (second_gives : B → List Y → Type 0) where
+  -- Pairs of the first items of both streams; further items of either one may be left.
+  pub record ZipGives (m : Zip A B X Y) (pairs : List (X × Y)) : Type 0 where
+    pub more : List X
+    pub first : HeldComes gives m.first m.first_item (map (λ p. p.0) pairs ++ more)
+    pub second_more : List Y
+    pub second : HeldComes second_gives m.second m.second_item (map (λ p. p.1) pairs ++ second_more)

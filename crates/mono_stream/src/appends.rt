@@ -1,6 +1,6 @@
 // The items of two streams, one stream after the other.
 ghost use Rattle.mono_stream.specs.Sides.{SideCanPoll};
-ghost use Rattle.mono_stream.specs.Appends.{ChainPolls, ChainCancels};
+ghost use Rattle.mono_stream.specs.Appends.{ChainPolls, ChainGives, ChainCancels};
 
 use crate::sides::{cancel_side, poll_side};
 use crate::streams::Stream;
@@ -28,6 +28,8 @@ where
     ghost can_poll = { λ m. SideCanPoll A.can_poll m.first × B.can_poll m.second };
 
     ghost polls = { ChainPolls A.polls A.cancels B.polls };
+
+    ghost gives = { ChainGives A.gives B.gives };
 
     ghost cancels = { ChainCancels A.cancels B.cancels };
 

@@ -14,6 +14,8 @@ impl<C: Context, S: Stream<C>> Stream<C> for &mut S {
 
     ghost polls = { λ s c r t d. S.polls s.now c r t.now d };
 
+    ghost gives = { λ s. S.gives s.now };
+
     ghost cancels = { λ s c d. d ≡ c };
 
     fn poll_next<R: Host>(&mut self, rt: &R, alloc: Global, cx: &mut C) -> Poll<Option<S::Item>> {

@@ -1,6 +1,6 @@
 // A stream of the outputs of the futures that a closure makes of the items.
 ghost use Rattle.std.specs.Prelude.{None};
-ghost use Rattle.mono_stream.specs.Chains.{ThenPolls, ThenCancels, HeldIsLive, IsLive, MakesLive, Finishes};
+ghost use Rattle.mono_stream.specs.Chains.{ThenPolls, ThenGives, ThenCancels, HeldIsLive, IsLive, MakesLive, Finishes, FinishGives};
 
 use crate::streams::Stream;
 use mono_model::{Host, Poll};
@@ -10,8 +10,8 @@ use std::alloc::Global;
 /// A stream of the outputs of the futures that a closure makes of the items of another, in order.
 ///
 /// Each poll polls the future that was made. Once that is ready it is given up, and only then the next item is taken. A
-/// poll requires (`can_poll`) that the closure may be called at every state and item, and makes no future that is
-/// spent.
+/// poll requires (`can_poll`) that the closure may be called at each item that may come, once it was called at the items
+/// before, and makes no future that is spent.
 #[derive(Drop)]
 pub struct Then<S, F, Fut> {
     pub(crate) stream: S,
@@ -28,6 +28,7 @@ fn finish<R: Host, C: Context, Fut: TaskFuture<C>>(
 ) -> (Poll<Option<Fut::Output>>, Option<Fut>)
     requires { IsLive Fut.TaskFuture future }
     ensures finishes { Finishes Fut.TaskFuture future cx.old result.0 result.1 cx.new }
+    ensures given { FinishGives Fut.gives future result.0 result.1 }
     ensures live { HeldIsLive Fut.TaskFuture result.1 }
     ensures reached { C.reaches cx.old cx.new }
 {
@@ -49,9 +50,11 @@ where
 {
     type Item = Fut::Output;
 
-    ghost can_poll = { λ t. S.can_poll t.stream × HeldIsLive Fut.TaskFuture t.made × MakesLive Fut.TaskFuture F.FnMut };
+    ghost can_poll = { λ t. S.can_poll t.stream × HeldIsLive Fut.TaskFuture t.made × MakesLive Fut.TaskFuture F.FnMut S.gives t.stream t.f };
 
     ghost polls = { ThenPolls S.Stream Fut.TaskFuture F.FnMut };
+
+    ghost gives = { ThenGives S.gives Fut.gives F.FnMut };
 
     ghost cancels = { ThenCancels S.Stream Fut.TaskFuture F.FnMut };
 
@@ -69,9 +72,9 @@ where
         match self.stream.poll_next(rt, alloc, cx) {
             Poll::Ready(Some(item)) => {
                 let future = (self.f)(item);
-                let (answer, made) = finish(rt, alloc, cx, future);
+                let (first, made) = finish(rt, alloc, cx, future);
                 self.made = made;
-                answer
+                first
             }
             Poll::Ready(None) => Poll::Ready(None),
             Poll::Pending => Poll::Pending,

@@ -1,7 +1,7 @@
 // A future that collects the items of a stream.
 ghost use Rattle.std.specs.Prelude.{⊤, false};
 ghost use Rattle.std.specs.Bool.{OnFalse};
-ghost use Rattle.mono_stream.specs.Collects.{CollectSifts, CollectPolls};
+ghost use Rattle.mono_stream.specs.Collects.{CollectSifts, CollectPolls, CollectGives};
 
 use crate::sieves::Sieve;
 use crate::sifts::{Outcome, sift_some};
@@ -22,7 +22,7 @@ impl<X: Drop> Sieve<X> for Collecting<X> {
 
     ghost done = { λ v. false };
 
-    ghost can_sift = { λ v. ⊤ };
+    ghost can_sift = { λ v x. ⊤ };
 
     ghost sifts = { λ v x y w. CollectSifts v.items x y w.items };
 
@@ -73,6 +73,8 @@ where
 
     ghost polls = { CollectPolls S.polls C.number C.wakes };
 
+    ghost gives = { CollectGives S.gives };
+
     ghost cancels = { λ f c d. S.cancels f.stream c d };
 
     fn spent(&self) -> bool {
@@ -93,8 +95,8 @@ where
             }
             Outcome::Ended => {
                 self.has_ended = true;
-                let items = mem::replace(&mut self.collecting.items, Vec::new(alloc));
-                Poll::Ready(Ok(items))
+                let all = mem::replace(&mut self.collecting.items, Vec::new(alloc));
+                Poll::Ready(Ok(all))
             }
             Outcome::Waits => Poll::Pending,
             Outcome::Many => {

@@ -16,7 +16,7 @@ impl<X> Sieve<X> for Enumerating {
 
     ghost done = { λ v. false };
 
-    ghost can_sift = { λ v. ⊤ };
+    ghost can_sift = { λ v x. ⊤ };
 
     ghost sifts = { EnumeratingSifts };
 

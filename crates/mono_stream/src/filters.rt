@@ -1,14 +1,14 @@
 // Sieves that let through the items of a closure's choice.
 ghost use Rattle.std.specs.Prelude.{false};
 ghost use Rattle.std.specs.Fn.{CalledAt};
-ghost use Rattle.mono_stream.specs.Sieves.{FilteringSifts, FilterMappingSifts};
+ghost use Rattle.mono_stream.specs.Sieves.{TestsAt, FilteringSifts, FilterMappingSifts};
 
 use crate::sieves::Sieve;
 use crate::sifts::Sifted;
 
 // Calls the closure at an item.
 pub(crate) fn passes<X, F: FnMut(&X) -> bool>(f: &mut F, item: &X) -> bool
-    requires { (state : F) (x : _) → F.pre state x }
+    requires { TestsAt F.FnMut f.old item.now }
     ensures { CalledAt F.FnMut f.old item.now result f.new }
 {
     f(item)
@@ -16,7 +16,7 @@ pub(crate) fn passes<X, F: FnMut(&X) -> bool>(f: &mut F, item: &X) -> bool
 
 /// A sieve that returns each item for which its closure returns true.
 ///
-/// It requires (`can_sift`) that the closure may be called at every state and item.
+/// It requires (`can_sift`) that the closure may be called at the item.
 #[derive(Drop)]
 pub struct Filtering<F> {
     pub(crate) f: F,
@@ -27,7 +27,7 @@ impl<X: Drop, F: FnMut(&X) -> bool + Drop> Sieve<X> for Filtering<F> {
 
     ghost done = { λ v. false };
 
-    ghost can_sift = { λ v. (state : F) (x : _) → F.pre state x };
+    ghost can_sift = { λ v x. TestsAt F.FnMut v.f x };
 
     ghost sifts = { FilteringSifts F.FnMut };
 
@@ -49,7 +49,7 @@ pub type Filter<S, F> = Sifted<S, Filtering<F>>;
 
 /// A sieve that returns what its closure returns for each item.
 ///
-/// It requires (`can_sift`) that the closure may be called at every state and item.
+/// It requires (`can_sift`) that the closure may be called at the item.
 #[derive(Drop)]
 pub struct FilterMapping<F> {
     pub(crate) f: F,
@@ -60,7 +60,7 @@ impl<X, Y, F: FnMut(X) -> Option<Y> + Drop> Sieve<X> for FilterMapping<F> {
 
     ghost done = { λ v. false };
 
-    ghost can_sift = { λ v. (state : F) (x : _) → F.pre state x };
+    ghost can_sift = { λ v x. F.pre v.f x };
 
     ghost sifts = { FilterMappingSifts F.FnMut };
 

@@ -1,7 +1,7 @@
 // A future that combines the items of a stream.
 ghost use Rattle.std.specs.Prelude.{false, IsSome};
 ghost use Rattle.std.specs.Bool.{OnFalse};
-ghost use Rattle.mono_stream.specs.Folds.{is_nothing, FoldSifts, FoldPolls};
+ghost use Rattle.mono_stream.specs.Folds.{is_nothing, FoldSifts, FoldsAt, FoldsOver, FoldPolls, FoldGives};
 
 use crate::sieves::Sieve;
 use crate::sifts::{Outcome, sift_some};
@@ -22,7 +22,7 @@ impl<X, T: Drop, F: FnMut(T, X) -> T + Drop> Sieve<X> for Folding<T, F> {
 
     ghost done = { λ v. false };
 
-    ghost can_sift = { λ v. IsSome v.value × ((state : F) (t : _) (x : _) → F.pre state t x) };
+    ghost can_sift = { λ v x. IsSome v.value × FoldsAt F.FnMut v.value v.f x };
 
     ghost sifts = { λ v x y w. FoldSifts F.FnMut v.value v.f x y w.value w.f };
 
@@ -40,8 +40,8 @@ impl<X, T: Drop, F: FnMut(T, X) -> T + Drop> Sieve<X> for Folding<T, F> {
 /// A future that combines the items of a stream, in order, by a closure, and returns the last value.
 ///
 /// One poll takes at most 256 items; then it wakes its own task and returns `Pending`. It is ready once the stream has
-/// ended, and is spent from then on. A poll requires (`can_poll`) that the closure may be called at every state, value
-/// and item.
+/// ended, and is spent from then on. A poll requires (`can_poll`) that the closure may be called at each item that may
+/// come, and at the value that it made of the items before.
 #[derive(Drop)]
 pub struct Fold<S, T, F> {
     pub(crate) stream: S,
@@ -59,9 +59,11 @@ where
 
     ghost is_spent = { λ f. is_nothing f.folding.value };
 
-    ghost can_poll = { λ f. OnFalse (is_nothing f.folding.value) (S.can_poll f.stream × ((state : F) (t : _) (x : _) → F.pre state t x)) };
+    ghost can_poll = { λ f. OnFalse (is_nothing f.folding.value) (S.can_poll f.stream × FoldsOver F.FnMut S.gives f.stream f.folding.value f.folding.f) };
 
     ghost polls = { FoldPolls S.polls F.FnMut C.number C.wakes };
+
+    ghost gives = { FoldGives S.gives F.FnMut };
 
     ghost cancels = { λ f c d. S.cancels f.stream c d };
 

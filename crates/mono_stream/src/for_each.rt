@@ -63,7 +63,7 @@ where
 
     ghost is_spent = { λ f. f.has_ended };
 
-    ghost can_poll = { λ f. OnFalse f.has_ended (S.can_poll f.items.stream × HeldIsLive Fut.TaskFuture f.items.made × MakesLive Fut.TaskFuture F.FnMut) };
+    ghost can_poll = { λ f. OnFalse f.has_ended (S.can_poll f.items.stream × HeldIsLive Fut.TaskFuture f.items.made × MakesLive Fut.TaskFuture F.FnMut S.gives f.items.stream f.items.f) };
 
     ghost polls = { λ f c r g d. (stop : Stop) × (middle : _) × Handles (ThenPolls S.Stream Fut.TaskFuture F.FnMut) f.items c stop g.items middle × AfterHandled C.number C.wakes stop middle r g.has_ended d };
 

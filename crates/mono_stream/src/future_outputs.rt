@@ -1,6 +1,6 @@
 // A stream of the outputs of a future.
 ghost use Rattle.std.specs.Bool.{OnFalse};
-ghost use Rattle.mono_stream.specs.FutureOutputs.{OutputsPoll};
+ghost use Rattle.mono_stream.specs.FutureOutputs.{OutputsPoll, OutputsGive};
 
 use crate::streams::Stream;
 use mono_model::{Host, Poll};
@@ -22,6 +22,8 @@ impl<C: Context, F: TaskFuture<C>> Stream<C> for Outputs<F> {
     ghost can_poll = { λ s. OnFalse (F.is_spent s.future) (F.can_poll s.future) };
 
     ghost polls = { λ s c r t d. OutputsPoll F.polls (F.is_spent s.future) s.future c r t.future d };
+
+    ghost gives = { λ s. OutputsGive F.TaskFuture s.future };
 
     ghost cancels = { λ s c d. F.cancels s.future c d };
 

@@ -2,7 +2,7 @@
 ghost use Rattle.std.specs.Prelude.{◌≡◌, IfSome};
 ghost use Rattle.std.specs.Iterator.{UpTo};
 ghost use Rattle.std.specs.Iterator.SizeHint.{IsWithinCount};
-ghost use Rattle.mono_stream.specs.Iterators.{IterPolls};
+ghost use Rattle.mono_stream.specs.Iterators.{IterPolls, IterGives};
 
 use crate::streams::Stream;
 use mono_model::{Host, Poll};
@@ -22,6 +22,8 @@ impl<C: Context, I: Iterator> Stream<C> for Iter<I> {
 
     // The item is the iterator's, and the context stays as it is.
     ghost polls = { λ s c r t d. IterPolls I.next_gives s.iterator c r t.iterator d };
+
+    ghost gives = { λ s. IterGives I.next_gives s.iterator };
 
     ghost cancels = { λ s c d. d ≡ c };
 

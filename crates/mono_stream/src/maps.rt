@@ -1,6 +1,7 @@
 // A stream of a closure's answers for the items.
 ghost use Rattle.std.specs.Prelude.{None};
-ghost use Rattle.mono_stream.specs.Maps.{MapPolls};
+ghost use Rattle.mono_stream.specs.Comes.{CallableOver};
+ghost use Rattle.mono_stream.specs.Maps.{MapPolls, MapGives};
 
 use crate::streams::Stream;
 use mono_model::{Host, Poll};
@@ -9,7 +10,7 @@ use std::alloc::Global;
 
 /// A stream of a closure's answers for the items of another, in order.
 ///
-/// A poll requires (`can_poll`) that the closure may be called at every state and item.
+/// A poll requires (`can_poll`) that the closure may be called at each item that may come, after calls at the items before.
 #[derive(Drop)]
 pub struct Map<S, F> {
     pub(crate) stream: S,
@@ -24,9 +25,11 @@ where
 {
     type Item = T;
 
-    ghost can_poll = { λ m. S.can_poll m.stream × ((state : F) (x : _) → F.pre state x) };
+    ghost can_poll = { λ m. S.can_poll m.stream × CallableOver F.FnMut S.gives m.stream m.f };
 
     ghost polls = { MapPolls S.Stream F.FnMut };
+
+    ghost gives = { MapGives S.gives F.FnMut };
 
     ghost cancels = { λ m c d. S.cancels m.stream c d };
 

@@ -1,6 +1,7 @@
 // The items of two streams, as they come.
+ghost use Rattle.mono_stream.specs.Comes.{FollowOn};
 ghost use Rattle.mono_stream.specs.Sides.{SideCanPoll};
-ghost use Rattle.mono_stream.specs.Merges.{BothPoll, MergePolls, MergeCancels};
+ghost use Rattle.mono_stream.specs.Merges.{BothPoll, BothGive, MergePolls, MergeGives, MergeCancels};
 
 use crate::sides::{cancel_side, poll_side};
 use crate::streams::Stream;
@@ -24,6 +25,7 @@ where
     requires near { SideCanPoll A.can_poll near.old }
     requires far { SideCanPoll B.can_poll far.old }
     ensures polled { BothPoll A.polls A.cancels B.polls B.cancels near.old far.old cx.old result near.new far.new cx.new }
+    ensures given { FollowOn (BothGive A.gives B.gives near.old far.old) result (BothGive A.gives B.gives near.new far.new) }
     ensures near { SideCanPoll A.can_poll near.new }
     ensures far { SideCanPoll B.can_poll far.new }
     ensures reached { C.reaches cx.old cx.new }
@@ -62,6 +64,8 @@ where
     ghost can_poll = { λ m. SideCanPoll A.can_poll m.first × SideCanPoll B.can_poll m.second };
 
     ghost polls = { MergePolls A.polls A.cancels B.polls B.cancels };
+
+    ghost gives = { MergeGives A.gives B.gives };
 
     ghost cancels = { MergeCancels A.cancels B.cancels };
 

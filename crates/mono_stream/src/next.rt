@@ -30,7 +30,7 @@ impl<C: Context, S: Stream<C>> TaskFuture<C> for Next<'_, S> {
     // The poll is the stream's; it is the last if the stream has ended.
     ghost polls = { λ f c r g d. S.polls f.stream.now c r g.stream.now d × (g.has_ended ≡ is_last r) };
 
-    ghost gives = { λ f. NextGives S.Stream };
+    ghost gives = { λ f. NextGives S.Stream f.stream.now };
 
     ghost cancels = { λ f c d. d ≡ c };
 

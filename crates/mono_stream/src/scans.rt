@@ -1,13 +1,13 @@
 // A sieve with a state that a closure changes.
 ghost use Rattle.std.specs.Fn.{CalledWithState};
-ghost use Rattle.mono_stream.specs.Sieves.{ScanningSifts};
+ghost use Rattle.mono_stream.specs.Sieves.{StepsAt, ScanningSifts};
 
 use crate::sieves::Sieve;
 use crate::sifts::Sifted;
 
 /// A sieve that returns what its closure makes of a state and each item. It is done once that is `None`.
 ///
-/// It requires (`can_sift`) that the closure may be called at every state and item.
+/// It requires (`can_sift`) that the closure may be called at the state and the item.
 #[derive(Drop)]
 pub struct Scanning<A, F> {
     pub(crate) state: A,
@@ -17,7 +17,7 @@ pub struct Scanning<A, F> {
 
 // Calls the closure at the state and an item.
 fn step<A, X, Y, F: FnMut(&mut A, X) -> Option<Y>>(f: &mut F, state: &mut A, item: X) -> Option<Y>
-    requires { (f : F) (a : _) (x : _) → F.pre f a x }
+    requires { StepsAt F.FnMut f.old state.old item }
     ensures { CalledWithState F.FnMut f.old state.old item result f.new state.new }
 {
     f(state, item)
@@ -28,7 +28,7 @@ impl<X, Y, A: Drop, F: FnMut(&mut A, X) -> Option<Y> + Drop> Sieve<X> for Scanni
 
     ghost done = { λ v. v.has_stopped };
 
-    ghost can_sift = { λ v. (state : F) (a : _) (x : _) → F.pre state a x };
+    ghost can_sift = { λ v x. StepsAt F.FnMut v.f v.state x };
 
     ghost sifts = { ScanningSifts F.FnMut };
 

@@ -1,5 +1,5 @@
 // A stream that is given up once it has ended.
-ghost use Rattle.mono_stream.specs.Sides.{SideCanPoll, SidePolls, SideCancels};
+ghost use Rattle.mono_stream.specs.Sides.{SideCanPoll, SidePolls, SideMayCome, SideFollows, SideCancels};
 
 use crate::streams::Stream;
 use mono_model::{Host, Poll};
@@ -15,6 +15,7 @@ pub(crate) fn poll_side<R: Host, C: Context, S: Stream<C>>(
 ) -> Poll<Option<S::Item>>
     requires { SideCanPoll S.can_poll side.old }
     ensures polled { SidePolls S.polls S.cancels side.old cx.old result side.new cx.new }
+    ensures given { SideFollows (SideMayCome S.gives side.old) result (SideMayCome S.gives side.new) }
     ensures callable { SideCanPoll S.can_poll side.new }
     ensures reached { C.reaches cx.old cx.new }
 {
@@ -55,6 +56,8 @@ impl<C: Context, S: Stream<C>> Stream<C> for Fuse<S> {
     ghost can_poll = { λ s. SideCanPoll S.can_poll s.side };
 
     ghost polls = { λ s c r t d. SidePolls S.polls S.cancels s.side c r t.side d };
+
+    ghost gives = { λ s. SideMayCome S.gives s.side };
 
     ghost cancels = { λ s c d. SideCancels S.cancels s.side c d };
 

@@ -12,8 +12,8 @@ pub trait Sieve<X>: Drop {
     // Whether it takes no more items.
     ghost done: { Self → Bool } = { λ _. false };
 
-    // What its closures require of a call; true for a sieve that has none.
-    ghost can_sift: { Self → Type 0 } = { λ _. ⊤ };
+    // What its closure requires of a call at an item; true for a sieve that has none.
+    ghost can_sift: { Self → X → Type 0 } = { λ _ _. ⊤ };
 
     // The value that it may return for an item, and the sieve after it.
     ghost sifts: { Self → X → Option Self.Output → Self → Type 0 };
@@ -25,7 +25,6 @@ pub trait Sieve<X>: Drop {
     /// Takes an item and returns its value, or `None` if it lets nothing through.
     fn sift(&mut self, item: X) -> Option<Self::Output>
         requires open { done self.old ≡ false }
-        requires able { can_sift self.old }
-        ensures sifted { sifts self.old item result self.new }
-        ensures able { can_sift self.new };
+        requires able { can_sift self.old item }
+        ensures { sifts self.old item result self.new };
 }

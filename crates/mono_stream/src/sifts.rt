@@ -1,4 +1,6 @@
 // A stream of the values that a sieve lets through.
+ghost use Rattle.mono_stream.specs.Comes.{MayCome};
+ghost use Rattle.mono_stream.specs.SiftedComes.{AbleOver, SiftsOn, SiftedGives};
 ghost use Rattle.mono_stream.specs.Sifts.{Sifts, SiftedPolls, UnlessOver};
 
 use crate::sieves::Sieve;
@@ -26,10 +28,11 @@ pub(crate) fn sift_some<R: Host, C: Context, S: Stream<C>, V: Sieve<S::Item>>(
     sieve: &mut V,
 ) -> Outcome<V::Output>
     requires callable { S.can_poll stream.old }
-    requires able { V.can_sift sieve.old }
+    requires able { AbleOver V.done V.sifts V.can_sift S.gives stream.old sieve.old }
     ensures sifts { Sifts S.polls V.done V.sifts stream.old sieve.old cx.old result stream.new sieve.new cx.new }
+    ensures given { SiftsOn V.done V.sifts result (MayCome S.gives stream.old) (MayCome S.gives stream.new) sieve.old sieve.new }
     ensures callable { UnlessOver result (S.can_poll stream.new) }
-    ensures able { V.can_sift sieve.new }
+    ensures able { UnlessOver result (AbleOver V.done V.sifts V.can_sift S.gives stream.new sieve.new) }
     ensures reached { C.reaches cx.old cx.new }
 {
     for _i in 0..256u32 {
@@ -67,9 +70,11 @@ where
 {
     type Item = V::Output;
 
-    ghost can_poll = { λ m. S.can_poll m.stream × V.can_sift m.sieve };
+    ghost can_poll = { λ m. S.can_poll m.stream × AbleOver V.done V.sifts V.can_sift S.gives m.stream m.sieve };
 
     ghost polls = { SiftedPolls S.polls V.done V.sifts C.number C.wakes };
+
+    ghost gives = { SiftedGives S.gives V.done V.sifts };
 
     ghost cancels = { λ m c d. S.cancels m.stream c d };
 

@@ -1,6 +1,6 @@
 // Sieves that pass over the first items.
 ghost use Rattle.std.specs.Prelude.{⊤, false};
-ghost use Rattle.mono_stream.specs.Sieves.{SkippingSifts, SkippingWhileSifts};
+ghost use Rattle.mono_stream.specs.Sieves.{TestsUnless, SkippingSifts, SkippingWhileSifts};
 
 use crate::filters::passes;
 use crate::sieves::Sieve;
@@ -17,7 +17,7 @@ impl<X: Drop> Sieve<X> for Skipping {
 
     ghost done = { λ v. false };
 
-    ghost can_sift = { λ v. ⊤ };
+    ghost can_sift = { λ v x. ⊤ };
 
     ghost sifts = { SkippingSifts };
 
@@ -39,7 +39,7 @@ pub type Skip<S> = Sifted<S, Skipping>;
 
 /// A sieve that passes over items while its closure returns true, and returns each later one without a call.
 ///
-/// It requires (`can_sift`) that the closure may be called at every state and item.
+/// It requires (`can_sift`) that the closure may be called at the item, until it has returned one.
 #[derive(Drop)]
 pub struct SkippingWhile<F> {
     pub(crate) f: F,
@@ -51,7 +51,7 @@ impl<X: Drop, F: FnMut(&X) -> bool + Drop> Sieve<X> for SkippingWhile<F> {
 
     ghost done = { λ v. false };
 
-    ghost can_sift = { λ v. (state : F) (x : _) → F.pre state x };
+    ghost can_sift = { λ v x. TestsUnless F.FnMut v.has_begun v.f x };
 
     ghost sifts = { SkippingWhileSifts F.FnMut };
 

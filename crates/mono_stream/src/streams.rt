@@ -1,6 +1,7 @@
 // A stream of items, polled on a context.
-ghost use Rattle.std.specs.Prelude.{◌≡◌, ⊤, ℕ, Option, None};
+ghost use Rattle.std.specs.Prelude.{◌≡◌, ⊤, ℕ, List, Option, None};
 ghost use Rattle.mono_model.specs.declared.poll.Poll.{Poll};
+ghost use Rattle.mono_stream.specs.Comes.{MayCome, FollowOn};
 ghost use Rattle.mono_stream.specs.Ends.{UnlessEnded, IsHint};
 
 use mono_model::{Host, Poll};
@@ -9,9 +10,9 @@ use std::alloc::Global;
 
 /// Items that come one after the other, in turns on a context.
 ///
-/// A stream specifies the answers of one poll and the stream after it (`polls`), and the context after it is given up
-/// (`cancels`). For every stream, poll and cancel promise that the new context is reached from the context before
-/// (`reached`).
+/// A stream specifies the answers of one poll and the stream after it (`polls`), the items that may come (`gives`), and
+/// the context after it is given up (`cancels`). For every stream, poll and cancel promise that the new context is
+/// reached from the context before (`reached`).
 pub trait Stream<C: Context>: Drop {
     /// The type of its items.
     type Item;
@@ -22,6 +23,9 @@ pub trait Stream<C: Context>: Drop {
     // The answers that one poll may give, and the stream and the context after it.
     ghost polls: { Self → C → Poll (Option Self.Item) → Self → C → Type 0 };
 
+    // Whether these items may come next, in order; any items, if the stream does not say. The empty list does not count.
+    ghost gives: { Self → List Self.Item → Type 0 } = { λ _ _. ⊤ };
+
     // The contexts after giving the stream up.
     ghost cancels: { Self → C → C → Type 0 };
 
@@ -30,10 +34,12 @@ pub trait Stream<C: Context>: Drop {
 
     /// Returns the next item, `None` if the stream has ended, or `Pending` if neither has come yet.
     ///
-    /// A stream that has not ended may be polled again (`callable`).
+    /// A stream that has not ended may be polled again (`callable`). The item may come next, and the items that may come
+    /// after this poll are those that could follow it (`given`).
     fn poll_next<R: Host>(&mut self, rt: &R, alloc: Global, cx: &mut C) -> Poll<Option<Self::Item>>
         requires { can_poll self.old }
         ensures polled { polls self.old cx.old result self.new cx.new }
+        ensures given { FollowOn (MayCome gives self.old) result (MayCome gives self.new) }
         ensures callable { UnlessEnded result (can_poll self.new) }
         ensures reached { C.reaches cx.old cx.new };
 

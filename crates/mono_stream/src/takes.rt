@@ -1,6 +1,6 @@
 // Sieves that are done after the first items.
 ghost use Rattle.std.specs.Prelude.{◌==◌, ⊤};
-ghost use Rattle.mono_stream.specs.Sieves.{TakingSifts, TakingWhileSifts};
+ghost use Rattle.mono_stream.specs.Sieves.{TestsAt, TakingSifts, TakingWhileSifts};
 
 use crate::filters::passes;
 use crate::sieves::Sieve;
@@ -17,7 +17,7 @@ impl<X> Sieve<X> for Taking {
 
     ghost done = { λ v. v.remaining == 0 };
 
-    ghost can_sift = { λ v. ⊤ };
+    ghost can_sift = { λ v x. ⊤ };
 
     ghost sifts = { TakingSifts };
 
@@ -36,7 +36,7 @@ pub type Take<S> = Sifted<S, Taking>;
 
 /// A sieve that returns each item until its closure returns false, and is done then.
 ///
-/// It requires (`can_sift`) that the closure may be called at every state and item.
+/// It requires (`can_sift`) that the closure may be called at the item.
 #[derive(Drop)]
 pub struct TakingWhile<F> {
     pub(crate) f: F,
@@ -48,7 +48,7 @@ impl<X: Drop, F: FnMut(&X) -> bool + Drop> Sieve<X> for TakingWhile<F> {
 
     ghost done = { λ v. v.has_failed };
 
-    ghost can_sift = { λ v. (state : F) (x : _) → F.pre state x };
+    ghost can_sift = { λ v x. TestsAt F.FnMut v.f x };
 
     ghost sifts = { TakingWhileSifts F.FnMut };
 

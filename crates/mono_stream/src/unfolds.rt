@@ -1,6 +1,6 @@
 // A stream of items that futures give, each made of a state.
-ghost use Rattle.mono_stream.specs.Chains.{HeldIsLive, HeldCancels, IsLive, MakesLive};
-ghost use Rattle.mono_stream.specs.Unfolds.{Unfolds, UnfoldPolls};
+ghost use Rattle.mono_stream.specs.Chains.{HeldIsLive, HeldCancels, IsLive};
+ghost use Rattle.mono_stream.specs.Unfolds.{Unfolds, UnfoldGivesOne, UnfoldPolls, UnfoldGives, UnfoldsLive};
 
 use crate::streams::Stream;
 use mono_model::{Host, Poll};
@@ -11,7 +11,7 @@ use std::alloc::Global;
 ///
 /// A poll polls the future that was made; if there is none, it makes one of the state. Once the future is ready it is
 /// given up. Its output is the next item with the next state, or `None` if the stream has ended. A poll requires
-/// (`can_poll`) that the closure may be called at every state, and makes no future that is spent.
+/// (`can_poll`) that the closure may be called at each state that may be reached, and makes no future that is spent.
 #[derive(Drop)]
 pub struct Unfold<T, F, Fut> {
     pub(crate) state: Option<T>,
@@ -32,6 +32,7 @@ where
     Fut: TaskFuture<C, Output = Option<(X, T)>>,
     requires { IsLive Fut.TaskFuture future }
     ensures unfolds { Unfolds Fut.TaskFuture future cx.old result.0 result.1 result.2 cx.new }
+    ensures given { UnfoldGivesOne Fut.gives future result.0 result.1 result.2 }
     ensures live { HeldIsLive Fut.TaskFuture result.1 }
     ensures reached { C.reaches cx.old cx.new }
 {
@@ -57,9 +58,11 @@ where
 {
     type Item = X;
 
-    ghost can_poll = { λ u. HeldIsLive Fut.TaskFuture u.made × MakesLive Fut.TaskFuture F.FnMut };
+    ghost can_poll = { λ u. HeldIsLive Fut.TaskFuture u.made × UnfoldsLive Fut.TaskFuture F.FnMut u };
 
     ghost polls = { UnfoldPolls Fut.TaskFuture F.FnMut };
+
+    ghost gives = { UnfoldGives Fut.gives F.FnMut };
 
     ghost cancels = { λ u c d. HeldCancels Fut.TaskFuture u.made c d };
 
@@ -74,10 +77,10 @@ where
             return Poll::Ready(None);
         };
         let future = (self.f)(state);
-        let (answer, made, state) = unfold_one(rt, alloc, cx, future);
+        let (first, made, state) = unfold_one(rt, alloc, cx, future);
         self.made = made;
         self.state = state;
-        answer
+        first
     }
 
     fn cancel(self, cx: &mut C) {

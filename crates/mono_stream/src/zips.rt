@@ -1,6 +1,8 @@
 // The items of two streams in pairs.
 ghost use Rattle.std.specs.Prelude.{◌≡◌};
-ghost use Rattle.mono_stream.specs.Zips.{Fills, UnlessOut, Pairs, ZipPolls, ZipCancels};
+ghost use Rattle.mono_stream.specs.Comes.{MayCome, FollowOn};
+ghost use Rattle.mono_stream.specs.Ends.{UnlessEnded};
+ghost use Rattle.mono_stream.specs.Zips.{Fills, FillsOn, UnlessOut, Pairs, SecondFills, ZipPolls, ZipGives, ZipCancels};
 
 use crate::streams::Stream;
 use mono_model::{Host, Poll};
@@ -25,6 +27,7 @@ fn fill<R: Host, X: Drop, C: Context, S: Stream<C, Item = X>>(
 ) -> Filled
     requires { S.can_poll stream.old }
     ensures fills { Fills S.polls stream.old held.old cx.old result stream.new held.new cx.new }
+    ensures given { FillsOn S.gives result stream.old held.old stream.new held.new }
     ensures callable { UnlessOut result (S.can_poll stream.new) }
     ensures reached { C.reaches cx.old cx.new }
 {
@@ -80,6 +83,34 @@ impl<A, B, X, Y> Zip<A, B, X, Y> {
         } = self;
         (first, first_item, second, second_item)
     }
+
+    // Polls the second stream unless an item of it is held, and returns the items that are then held as a pair. Once the
+    // second stream has ended, an item of the first stays held.
+    fn fill_second<R: Host, C: Context>(
+        &mut self,
+        rt: &R,
+        alloc: Global,
+        cx: &mut C,
+    ) -> Poll<Option<(X, Y)>>
+    where
+        X: Drop,
+        Y: Drop,
+        A: Stream<C, Item = X>,
+        B: Stream<C, Item = Y>,
+        requires first { A.can_poll self.old.first }
+        requires second { B.can_poll self.old.second }
+        ensures polled { SecondFills A.polls B.polls self.old.first_item self.old cx.old result self.new cx.new }
+        ensures same { self.new.first ≡ self.old.first }
+        ensures given { FollowOn (MayCome (ZipGives A.gives B.gives) self.old) result (MayCome (ZipGives A.gives B.gives) self.new) }
+        ensures callable { UnlessEnded result (A.can_poll self.new.first × B.can_poll self.new.second) }
+        ensures reached { C.reaches cx.old cx.new }
+    {
+        match fill(rt, alloc, cx, &mut self.second, &mut self.second_item) {
+            Filled::Held => pair(&mut self.first_item, &mut self.second_item),
+            Filled::Ended => Poll::Ready(None), // The first stream's item stays held.
+            Filled::Waits => Poll::Pending,
+        }
+    }
 }
 
 impl<X, Y, C, A, B> Stream<C> for Zip<A, B, X, Y>
@@ -96,18 +127,15 @@ where
 
     ghost polls = { ZipPolls A.polls B.polls };
 
+    ghost gives = { ZipGives A.gives B.gives };
+
     ghost cancels = { ZipCancels A.cancels B.cancels };
 
     fn poll_next<R: Host>(&mut self, rt: &R, alloc: Global, cx: &mut C) -> Poll<Option<(X, Y)>> {
         match fill(rt, alloc, cx, &mut self.first, &mut self.first_item) {
-            Filled::Ended => return Poll::Ready(None),
-            Filled::Held => {}
-            Filled::Waits => {}
-        }
-        match fill(rt, alloc, cx, &mut self.second, &mut self.second_item) {
             Filled::Ended => Poll::Ready(None),
-            Filled::Held => pair(&mut self.first_item, &mut self.second_item),
-            Filled::Waits => Poll::Pending,
+            Filled::Held => self.fill_second(rt, alloc, cx),
+            Filled::Waits => self.fill_second(rt, alloc, cx),
         }
     }
 

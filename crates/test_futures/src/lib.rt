@@ -29,6 +29,8 @@ mod retries;
 #[cfg(test)]
 mod stream_adapters;
 #[cfg(test)]
+mod stream_items;
+#[cfg(test)]
 mod streams;
 #[cfg(test)]
 mod tables;
