@@ -34,6 +34,9 @@ SUBJECTS = """
     streams              Stream, StreamExt                                                              mono_stream
     share a value        SharedState; SharedContext: shared, shared_mut                                 mono_task
     wait in it           Channel, Oneshot, Semaphore, Notify, Watch                                     mono_sync
+    lock it, meet, tell  Mutex, RwLock, Barrier, OnceCell, Broadcast                                    mono_locks
+    stop tasks, gather   run_until_cancelled, Tokens; JoinSet: enter, gather, join_next, shutdown       mono_groups
+    simulate             World, run                                                                     mono_sim
     talk to threads      channel; remote_waker; RemoteWaker::wake                                       mono_channel, mono_inbox
     leases, limits, mail Leases, Buckets, Mailboxes to await; Sessions, Limiter, Actors without tasks   mono_serve and below
 """

@@ -23,6 +23,8 @@ RESTS = re.compile(r"^(?:no proof: it calls |depends on )")
 UNREAD = re.compile(r"is not in scope|has no field|is no name|operand is missing|expected the end|cannot continue")
 MISSES = re.compile(r"has no field|is not in scope|has no `|was not admitted")
 PLACE = re.compile(r"^(?:note: )?(?:\./)?(\S+?):(\d+):\d+: (.*)$")
+# The break of a long line before its last words.
+WRAPPED = re.compile(r"\n  (?=has no |is not in scope|was not admitted)")
 # Rattle's words for a limit of its own.
 LIMIT = re.compile(r"antt ran out of |outgrew the memory limit|stopped at the step limit")
 
@@ -160,7 +162,7 @@ class Told:
         return [said for name, said in self.functions.items() if name == whole or name.startswith(whole + "::")]
 
     def errors(self):
-        return [line for line in self.text.split("\n") if PLACE.match(line)]
+        return [line for line in WRAPPED.sub(" ", self.text).split("\n") if PLACE.match(line)]
 
     def limit(self):
         """The line about a limit of the prover."""

@@ -1,109 +1,104 @@
--- An end of a channel after the turns of a loop that owns it.
-use Rattle.std.proofs.Common.{◌≡◌, ◌+◌, ◌-◌, ◌%◌, ◌^◌, ◌≤◌, ◌∷◌, ◌++◌, [], ℕ, zero, suc, false, List, Option, Some, None, Result, Ok, Err, ap, subst, sym, ◌∙◌, arith}
-use Rattle.std.specs.Prelude.{⊤}
-use Rattle.std.specs.List.{sum}
-use Rattle.std.specs.declared.alloc.AllocError.{AllocError}
-use Rattle.std.specs.Fn.{Mut, Once, Called}
+-- An end of a channel after a task that owned it.
+use Rattle.std.proofs.Common.{◌≡◌, ◌+◌, ◌-◌, ◌%◌, ◌^◌, ◌∷◌, ◌++◌, [], ℕ, suc, Bool, true, false, List, Option, Some, None, Result, Ok, Err, ap, subst, sym, refl, ◌∙◌, arith}
+use Rattle.std.specs.Prelude.{⊤, IfOk, IfSome}
+use Rattle.std.specs.Result.{result_ok}
+use Rattle.std.specs.List.{sum, FoldsTo}
+use Rattle.std.specs.Fn.{Mut, Called}
+use Rattle.std.specs.Iterator.{YieldsThen}
+use Rattle.std.specs.Iterator.Adapters.{rev_source, rev_steps}
+use Rattle.std.specs.Range.{range_inclusive_start, range_inclusive_end, range_inclusive_exhausted, range_inclusive_len, range_inclusive_left, range_inclusive_steps_back}
+use Rattle.std.specs.declared.iter.Rev.{Rev}
+use Rattle.std.specs.declared.ops.RangeInclusive.{RangeInclusive}
 use Rattle.std.proofs.Math.Nat.{mod-add-mod}
 use Rattle.std.proofs.lemmas.List.{append_assoc, append-nil}
 use Rattle.std.proofs.lemmas.List.Sums.{sum_by_push}
-use Rattle.mono_model.specs.declared.poll.Poll.TheVariants.{Ready}
-use Rattle.mono_task.specs.Members.{FutureOf}
-use Rattle.mono_channel.specs.declared.errors.SendError.{SendError}
 use Rattle.mono_channel.specs.Beginnings.{ArrivedInterleaves, AloneArrives}
 use Rattle.mono_channel.specs.Delivery.{Interleaves, all_shares}
 use Rattle.mono_channel.specs.Ends.{Ends, sent_by, received_by, settled_by, shares_of}
-use Rattle.mono_channel.specs.Polls.{PollsToSend, PollsToReceive, FindsNone}
-use Rattle.mono_forms.specs.Maps.{MapGives}
-use Rattle.mono_forms.specs.LoopRules.{Keeps, loop_keeps}
-use Rattle.mono_forms.specs.Repeats.{RepeatGives, GivesFrom}
-use Rattle.mono_forms.specs.declared.maps.Map.{Map}
-use Rattle.mono_forms.specs.declared.repeats.Loop.{Loop}
-use Rattle.mono_forms.specs.declared.repeats.Loop.TheVariants.{Break, Continue}
-use Rattle.mono_forms.specs.declared.repeats.Repeat.{Repeat}
-use Rattle.example_threads.specs.Channels.{down_from, left_after, sum_after, IsSenderAfter, IsReceiverAfter}
+use Rattle.mono_channel.specs.Polls.{FindsNone}
+use Rattle.mono_forms.specs.MessageFolds.{Combines, FoldsMessages}
+use Rattle.mono_forms.specs.Sends.{SendsItems, refused_item}
+use Rattle.mono_forms.specs.declared.message_folds.Folded.{Folded}
+use Rattle.mono_forms.specs.declared.sends.AllSent.{AllSent}
+use Rattle.example_threads.specs.Channels.{down_from, HasSent, HasSummed}
 
--- A future and a closure of which no more is known than the answers that they may give.
-abbrev pub giving : {A X : Type 0} → (A → X → Type 0) → FutureOf A ⊤ X
-giving gives = record { is_spent = λ a. false; can_poll = λ a. ⊤; polls = λ a c r b d. ⊤; gives = gives; cancels = λ a c d. ⊤ }
+-- ---- the value of a result
 
-abbrev pub changing : {F X U : Type 0} → (F → X → U → Type 0) → Once F (X × Unit {0}) U
-changing post = record { pre = λ f a. ⊤; post = λ f a y. post f a.0 y }
+pub some_if : {X E : Type 0} (r : Result X E) (o : Option X) (P Q : X → Type 0) → o ≡ result_ok r → IfOk r P → ((x : X) → P x → Q x) → IfSome o Q
+some_if (Ok x) o P Q is holds by = rw is (by x holds)
+some_if (Err e) o P Q is holds by = rw is tt
 
--- Each answer of a loop whose first future keeps the invariant, as each that a call makes does. A closure changes each
--- future's answer into the next step.
-pub loop_gives : {A X F G S T : Type 0} (gives : A → X → Type 0) (post : F → X → Loop T S → Type 0) (call : Mut G (S × Unit {0}) (Map A F)) (m : Repeat (Map A F) G) (x : T)
-    → RepeatGives (λ n. MapGives (giving gives) (changing post) n.inner) call m x → (I : S → Type 0) (P : T → Type 0) (first : Map A F) → m.future ≡ Some first
-    → ((y : Loop T S) → MapGives (giving gives) (changing post) first.inner y → Keeps I P y)
-    → ((g : G) (s : S) (n : Map A F) (g' : G) → I s → Called call g (s, tt) n g' → (y : Loop T S) → MapGives (giving gives) (changing post) n.inner y → Keeps I P y)
-    → P x
-loop_gives gives post call m x given I P first made keeps keep =
-    loop_keeps call (λ n. MapGives (giving gives) (changing post) n.inner) I P keep first m.func keeps x (subst (λ o. GivesFrom (λ n. MapGives (giving gives) (changing post) n.inner) call o m.func x) made given)
+pub ok_of : {X E : Type 0} (r : Result X E) (x : X) (P : X → Type 0) → Some x ≡ result_ok r → IfOk r P → P x
+ok_of r x P is holds = some_if r (Some x) P P is holds (λ y h. h)
 
--- What follows from an answer that a closure made of an answer of its future.
-pub map_gives : {A X F U : Type 0} (gives : A → X → Type 0) (post : F → X → U → Type 0) (m : Option (A × F)) (y : U) → MapGives (giving gives) (changing post) m y → (a : A) (f : F) → m ≡ Some (a, f)
-    → (R : Type 0) → ((x : X) → gives a x → post f x y → R) → R
-map_gives gives post m y given a f made R each = let led : MapGives (giving gives) (changing post) (Some (a, f)) y = subst (λ o. MapGives (giving gives) (changing post) o y) made given in each led.0 led.1 led.2
+pub ok_is : {X E : Type 0} (r : Result X E) (x : X) → Some x ≡ result_ok r → r ≡ Ok x
+ok_is (Ok y) x is = cc
+ok_is (Err e) x is = absurd cc
 
--- another invariant of the same step
-keeps_on : {S T : Type 0} {I J : S → Type 0} {P Q : T → Type 0} → ((s : S) → I s → J s) → ((x : T) → P x → Q x) → (y : Loop T S) → Keeps I P y → Keeps J Q y
-keeps_on by on (Break x) h = on x h
-keeps_on by on (Continue s) h = by s h
+-- ---- the sender: the iterator gave the numbers from its end down to 1
 
--- ---- the sender
+abbrev pub up_to : ℕ → ℕ → ℕ
+up_to x y = y - x
 
-less_one : (n : ℕ) → suc n - 1 ≡ n
-less_one n = omega arith
+all_is_end : (a b n : ℕ) (done : Bool) → a ≡ 1 → n + 1 ≡ range_inclusive_len up_to a b done → range_inclusive_len up_to a b done ≡ b
+all_is_end a b n true one more = absurd (omega (arith, more))
+all_is_end a b n false one more = omega (arith, one, more)
 
-not_below : 1 ≤ 0 → ⊥
-not_below h = omega (arith, h)
+one_more : (n m : ℕ) → n + 1 ≡ m → m ≡ suc n
+one_more n m is = omega (arith, is)
 
-sends_on : (b c : Ends ℕ) (left : ℕ) (r : Result ⊤ (SendError ℕ)) → 1 ≤ left → PollsToSend b (Some left) (Ready r) c None → sent_by c ++ down_from (left_after left r) ≡ sent_by b ++ down_from left
-sends_on b c zero r some k = absurd (not_below some)
-sends_on b c (suc n) (Ok done) some k =
-    ap (λ l. l ++ down_from (suc n - 1)) k.1 ∙ (ap (λ m. (sent_by b ++ suc n ∷ []) ++ down_from m) (less_one n) ∙ append_assoc (sent_by b) (suc n ∷ []) (down_from n))
-sends_on b c (suc n) (Err e) some k = ap (λ l. l ++ down_from (suc n)) k.1
+module _ (follows : ℕ → ℕ → Type 0) where
+  abbrev pub numbers : Rev (RangeInclusive ℕ) → Option ℕ → Rev (RangeInclusive ℕ) → Type 0
+  numbers = rev_steps (range_inclusive_steps_back up_to follows)
 
-sent_after : (a : Ends ℕ) (count : ℕ) (b c : Ends ℕ) (left : ℕ) (r : Result ⊤ (SendError ℕ)) → 1 ≤ left → IsSenderAfter a count b left → PollsToSend b (Some left) (Ready r) c None
-    → IsSenderAfter a count c (left_after left r)
-sent_after a count b c left (Ok done) some h k = ((k.0 ∙ h.0.0, k.3 ∙ h.0.1), sends_on b c left (Ok done) some k ∙ h.1)
-sent_after a count b c left (Err e) some h k = ((k.0 ∙ h.0.0, k.4 ∙ h.0.1), sends_on b c left (Err e) some k ∙ h.1)
+  counts_down : (xs : List ℕ) (s u : Rev (RangeInclusive ℕ)) → range_inclusive_start (rev_source s) ≡ 1 → YieldsThen numbers s xs None u → xs ≡ down_from (range_inclusive_left up_to (rev_source s))
+  counts_down [] s u one h =
+      let none : range_inclusive_left up_to (rev_source h.0) ≡ 0 = h.2.1.0 in
+      sym (ap down_from (ap (λ t. range_inclusive_left up_to (rev_source t)) h.1 ∙ none))
+  counts_down (x ∷ xs) s u one h =
+      let j = h.1.0 in
+      let start : range_inclusive_start (rev_source j) ≡ range_inclusive_start (rev_source s) = h.1.1.0 in
+      let first : x ≡ range_inclusive_end (rev_source s) = h.1.1.1.0 in
+      let more : range_inclusive_left up_to (rev_source j) + 1 ≡ range_inclusive_left up_to (rev_source s) = h.1.1.1.1 in
+      let left : range_inclusive_left up_to (rev_source s) ≡ suc (range_inclusive_left up_to (rev_source j)) = one_more _ _ more in
+      let end : range_inclusive_left up_to (rev_source s) ≡ range_inclusive_end (rev_source s) =
+      all_is_end (range_inclusive_start (rev_source s)) (range_inclusive_end (rev_source s)) (range_inclusive_left up_to (rev_source j)) (range_inclusive_exhausted (rev_source s)) one more in
+      let others : xs ≡ down_from (range_inclusive_left up_to (rev_source j)) = counts_down xs j u (start ∙ one) (h.0, h.1.2, h.2) in
+      ap (λ y. y ∷ xs) (first ∙ (sym end ∙ left)) ∙ (ap (λ l. suc (range_inclusive_left up_to (rev_source j)) ∷ l) others ∙ sym (ap down_from left))
 
-sender_is : (a : Ends ℕ) (count : ℕ) (c d : Ends ℕ) (m n : ℕ) → d ≡ c → n ≡ m → IsSenderAfter a count c m → IsSenderAfter a count d n
-sender_is a count c d m n end left h = subst (λ e. IsSenderAfter a count e n) (sym end) (subst (λ l. IsSenderAfter a count c l) (sym left) h)
+  -- all numbers from the count down to 1 were sent
+  pub sends_down : {U : Type 0} (a : Ends ℕ) (count : ℕ) (range : RangeInclusive ℕ) (items : Rev (RangeInclusive ℕ)) (x : AllSent ℕ U (Rev (RangeInclusive ℕ))) → rev_source items ≡ range → range_inclusive_start range ≡ 1 → range_inclusive_end range ≡ count → range_inclusive_exhausted range ≡ false
+      → SendsItems numbers a items x → (done : ⊤) → x.result ≡ Ok done → HasSent count a x.sender
+  sends_down a count range items x source start end fresh h done ok =
+      let all : h.items ≡ down_from (range_inclusive_left up_to (rev_source items)) =
+      counts_down h.items items x.rest (ap range_inclusive_start source ∙ start) (subst (λ r. YieldsThen numbers items h.items (refused_item r) x.rest) ok h.taken) in
+      let left : range_inclusive_left up_to (rev_source items) ≡ count = ap (λ r. range_inclusive_left up_to r) source ∙ left_is count range start end fresh in
+      ((h.pair, h.shares), h.sent ∙ ap (λ l. sent_by a ++ l) (all ∙ ap down_from left))
+    where
+      from_one : (count : ℕ) → range_inclusive_len up_to 1 count false ≡ count
+      from_one count = omega arith
 
--- a turn that sent the first of so many numbers over b, and answered c
-pub send_keeps : {N : Type 0} (value : N → Ends ℕ) (number : N → ℕ) (a : Ends ℕ) (count : ℕ) (b c : Ends ℕ) (left : ℕ) (r : Result ⊤ (SendError ℕ)) → IsSenderAfter a count b left × (1 ≤ left) → PollsToSend b (Some left) (Ready r) c None
-    → (y : Loop N (Ends ℕ × ℕ)) → Keeps (λ s. (s.0 ≡ c) × (s.1 ≡ left_after left r) × (1 ≤ s.1)) (λ d. (value d ≡ c) × (number d ≡ left_after left r)) y
-    → Keeps (λ s. IsSenderAfter a count s.0 s.1 × (1 ≤ s.1)) (λ d. IsSenderAfter a count (value d) (number d)) y
-send_keeps value number a count b c left r h k y is =
-    let sent = sent_after a count b c left r h.1 h.0 k in
-    keeps_on (λ s same. (sender_is a count c s.0 (left_after left r) s.1 same.0 same.1 sent, same.2)) (λ d same. sender_is a count c (value d) (left_after left r) (number d) same.0 same.1 sent) y is
+      left_is : (count : ℕ) (range : RangeInclusive ℕ) → range_inclusive_start range ≡ 1 → range_inclusive_end range ≡ count → range_inclusive_exhausted range ≡ false → range_inclusive_left up_to range ≡ count
+      left_is count range start end fresh =
+          ap (λ a. range_inclusive_len up_to a (range_inclusive_end range) (range_inclusive_exhausted range)) start ∙ (ap (λ b. range_inclusive_len up_to 1 b (range_inclusive_exhausted range)) end ∙ (ap (λ d. range_inclusive_len up_to 1 count d) fresh ∙ from_one count))
 
--- ---- the receiver
+-- ---- the receiver: the value is the sum modulo 2^64
 
-sum_on : (xs ys : List ℕ) (x total : ℕ) → ys ≡ xs ++ x ∷ [] → total ≡ sum xs % 2 ^ 64 → (total + x) % 2 ^ 64 ≡ sum ys % 2 ^ 64
-sum_on xs ys x total more is =
-    ap (λ n. (n + x) % 2 ^ 64) is ∙ (mod-add-mod (sum xs) (2 ^ 64) x ∙ (sym (ap (λ n. n % 2 ^ 64) (sum_by_push (λ n. n) xs x)) ∙ sym (ap (λ l. sum l % 2 ^ 64) more)))
+sum_on : (xs : List ℕ) (x total next : ℕ) → total ≡ sum xs % 2 ^ 64 → next ≡ (total + x) % 2 ^ 64 → next ≡ sum (xs ++ x ∷ []) % 2 ^ 64
+sum_on xs x total next is added =
+    added ∙ (ap (λ n. (n + x) % 2 ^ 64) is ∙ (mod-add-mod (sum xs) (2 ^ 64) x ∙ sym (ap (λ n. n % 2 ^ 64) (sum_by_push (λ n. n) xs x))))
 
-pub none_received : (xs : List ℕ) → xs ≡ [] → 0 ≡ sum xs % 2 ^ 64
-none_received xs none = sym (ap (λ l. sum l % 2 ^ 64) none)
+module _ {F : Type 0} (call : Mut F (ℕ × (ℕ × Unit {0})) ℕ) (adds : (f : F) (total x next : ℕ) (g : F) → Called call f (total, (x, tt)) next g → next ≡ (total + x) % 2 ^ 64) where
+  adds_up : (xs ys : List ℕ) (p q : F × ℕ) → p.1 ≡ sum xs % 2 ^ 64 → FoldsTo (Combines call) p ys q → q.1 ≡ sum (xs ++ ys) % 2 ^ 64
+  adds_up xs [] p q is same = sym (ap {A = F × ℕ} (λ r. r.1) same) ∙ (is ∙ sym (ap (λ l. sum l % 2 ^ 64) (append-nil xs)))
+  adds_up xs (y ∷ ys) p q is h =
+      adds_up (xs ++ y ∷ []) ys h.0 q (sum_on xs y p.1 h.0.1 is (adds p.0 p.1 y h.0.1 h.0.0 h.1)) h.2 ∙ ap (λ l. sum l % 2 ^ 64) (append_assoc xs (y ∷ []) ys)
 
-received_after : (a b c : Ends ℕ) (total : ℕ) (r : Result (Option ℕ) AllocError) → IsReceiverAfter a b total → PollsToReceive b (Ready r) c → IsReceiverAfter a c (sum_after total r)
-received_after a b c total (Ok (Some x)) h k = ((k.0 ∙ h.0.0, k.3 ∙ h.0.1), k.2 ∙ h.1, sum_on (received_by b) (received_by c) x total k.1 h.2)
-received_after a b c total (Ok None) h k = ((k.0 ∙ h.0.0, k.4 ∙ h.0.1), k.2 ∙ h.1, h.2 ∙ sym (ap (λ l. sum l % 2 ^ 64) k.1))
-received_after a b c total (Err e) h k = ((k.0 ∙ h.0.0, k.4 ∙ h.0.1), k.2 ∙ h.1, h.2 ∙ sym (ap (λ l. sum l % 2 ^ 64) k.1))
-
-receiver_is : (a c d : Ends ℕ) (m n : ℕ) → d ≡ c → n ≡ m → IsReceiverAfter a c m → IsReceiverAfter a d n
-receiver_is a c d m n end total h = subst (λ e. IsReceiverAfter a e n) (sym end) (subst (λ t. IsReceiverAfter a c t) (sym total) h)
-
--- a turn that received over b, and answered c
-pub receive_keeps : {N : Type 0} (value : N → Ends ℕ) (number : N → ℕ) (a b c : Ends ℕ) (total : ℕ) (r : Result (Option ℕ) AllocError) → IsReceiverAfter a b total → PollsToReceive b (Ready r) c
-    → (y : Loop N (Ends ℕ × ℕ)) → Keeps (λ s. (s.0 ≡ c) × (s.1 ≡ sum_after total r)) (λ d. (value d ≡ c) × (number d ≡ sum_after total r)) y
-    → Keeps (λ s. IsReceiverAfter a s.0 s.1) (λ d. IsReceiverAfter a (value d) (number d)) y
-receive_keeps value number a b c total r h k y is =
-    let came = received_after a b c total r h k in
-    keeps_on (λ s same. receiver_is a c s.0 (sum_after total r) s.1 same.0 same.1 came) (λ d same. receiver_is a c (value d) (sum_after total r) (number d) same.0 same.1 came) y is
+  -- a receiver that had received nothing has summed all that it received
+  pub sums_all : {U : Type 0} (a : Ends ℕ) (f : F) (x : Folded ℕ U ℕ) → received_by a ≡ [] → FoldsMessages call a 0 f x → HasSummed a x
+  sums_all a f x none h =
+      let all : received_by x.receiver ≡ h.items = h.received ∙ ap (λ l. l ++ h.items) none in
+      ((h.pair, h.shares), h.settled, adds_up [] h.items (f, 0) (h.later, x.value) refl h.combined ∙ ap (λ l. sum l % 2 ^ 64) (sym all))
 
 -- ---- both
 
@@ -118,8 +113,6 @@ all_came arrived alone s a b d settled shares k none few whole =
     let full : shares_of b ≡ all_shares = no_more (shares_of b) (shares_of a) (shares_of s) all_shares shares few whole in
     k.1 ∙ alone (sent_by s) (received_by b) (subst (λ l. Interleaves l (received_by b)) one (arrived (shares_of b) (received_by b) (settled_by b) k.3 full))
 
--- a sender that had sent nothing, and has nothing left, has sent all
-pub all_sent : (a b : Ends ℕ) (count left : ℕ) → IsSenderAfter a count b left → left ≡ 0 → sent_by a ≡ [] → sent_by b ≡ down_from count
-all_sent a b count left h none new =
-    let over : sent_by b ++ [] ≡ sent_by a ++ down_from count = subst (λ n. sent_by b ++ down_from n ≡ sent_by a ++ down_from count) none h.1 in
-    sym (append-nil (sent_by b)) ∙ (over ∙ ap (λ l. l ++ down_from count) new)
+-- a sender that had sent nothing
+pub all_sent : (count : ℕ) (a b : Ends ℕ) → HasSent count a b → sent_by a ≡ [] → sent_by b ≡ down_from count
+all_sent count a b h none = h.1 ∙ ap (λ l. l ++ down_from count) none

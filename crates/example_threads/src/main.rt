@@ -3,10 +3,7 @@
 
 mod job_timeout;
 mod naps;
-mod numbered;
 mod pool;
-mod receives;
-mod sends;
 mod two_runtimes;
 
 use job_timeout::job_timeout;
@@ -18,7 +15,7 @@ use two_runtimes::two_runtimes;
 fn main(rt: HostRuntime) -> io::Result<()> {
     let alloc = rt.alloc();
     if let Some(done) = two_runtimes(rt, alloc, 1000) {
-        println!(rt; "two_runtimes: the sum is {}", done.number)?;
+        println!(rt; "two_runtimes: the sum is {}", done.value)?;
     }
     for (millis, limit) in [(5, 2000), (400, 20)] {
         if let Some(left) = job_timeout(rt, Nap { rt, millis }, limit) {

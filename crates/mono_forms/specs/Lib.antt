@@ -18,4 +18,7 @@ pub mod RaceLists
 pub mod LazySpawns
 pub mod Bodies
 pub mod Intervals
+pub mod Turns
+pub mod Sends
+pub mod MessageFolds
 pub mod Spent

@@ -13,10 +13,12 @@ use crate::intervals::IntervalFor;
 use crate::lazies::Lazy;
 use crate::lazy_spawns::LazySpawn;
 use crate::maps::{Map, MapErr, MapOk};
+use crate::message_folds::FoldMessages;
 use crate::race_lists::RaceList;
 use crate::races::Race;
 use crate::repeats::Repeat;
 use crate::rescues::{OrElse, TryFlattenErr};
+use crate::sends::SendAll;
 use crate::tries::{AndThen, TryFlatten};
 use crate::yields::YieldNow;
 use mono_blocking::{JobHandle, RunJob};
@@ -291,3 +293,7 @@ impl<T: Drop, U: Unpark, R: Host + Drop> FutureExt for mono_channel::Send<'_, T,
 impl<T: Drop, U: Unpark> FutureExt for mono_channel::IntoRecv<T, U> {}
 
 impl<T: Drop, U: Unpark, R: Host + Drop> FutureExt for mono_channel::IntoSend<T, U, R> {}
+
+impl<T: Drop, U: Unpark, I, R: Host + Drop> FutureExt for SendAll<T, U, I, R> {}
+
+impl<T: Drop, U: Unpark, S, F> FutureExt for FoldMessages<T, U, S, F> {}

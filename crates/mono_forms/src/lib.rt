@@ -20,11 +20,13 @@ mod lazies;
 mod lazy_spawns;
 mod makers;
 mod maps;
+mod message_folds;
 mod nests;
 mod race_lists;
 mod races;
 mod repeats;
 mod rescues;
+mod sends;
 mod tries;
 mod yields;
 
@@ -44,10 +46,12 @@ pub use makers::{
     lazy, lazy_spawn, pending, race, race_either, race_list, ready, repeat, yield_now,
 };
 pub use maps::{Map, MapErr, MapOk};
+pub use message_folds::{FoldMessages, Folded, fold_messages};
 pub use nests::{race_either3, race_either4, race_either5, race3, race4, race5};
 pub use race_lists::RaceList;
 pub use races::Race;
 pub use repeats::{Loop, Repeat};
 pub use rescues::{OrElse, TryFlattenErr};
+pub use sends::{AllSent, SendAll, send_all};
 pub use tries::{AndThen, TryFlatten};
 pub use yields::YieldNow;

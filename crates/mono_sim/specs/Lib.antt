@@ -5,3 +5,8 @@ pub mod Nodes
 pub mod Waits
 pub mod Worlds
 pub mod Endings
+pub mod Launches
+pub mod Faults
+pub mod Trials
+pub mod Turns
+pub mod Threads

@@ -7,6 +7,7 @@ ghost use Rattle.mono_sim.specs.Waits.{AddsWaits, ListsAll};
 
 use crate::drivers::SimDriver;
 use crate::seats::Seat;
+use crate::threads::run_once;
 use mono_blocking::ThreadPool;
 use mono_driver::Driver;
 use mono_joinword::Outcome;
@@ -120,7 +121,7 @@ where
     {
         self.seat.set_time(now);
         let before = self.runtime.turns();
-        let answer = self.runtime.run_until(rt, alloc, &self.main, turns);
+        let answer = run_once(rt, alloc, &mut self.runtime, &self.main, turns);
         let after = self.runtime.turns();
         (answer, after != before)
     }

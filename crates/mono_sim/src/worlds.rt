@@ -10,6 +10,7 @@ use crate::nodes::{Node, all_waits};
 use crate::schedules::Schedule;
 use crate::seats::Seat;
 use crate::steps::{End, Step};
+use crate::trials::System;
 use crate::waits::{is_any_queued, least_tick};
 use mono_blocking::ThreadPool;
 use mono_driver::Driver;
@@ -226,6 +227,24 @@ where
             made += 1;
         }
         Ok(End::Steps)
+    }
+}
+
+/// A world goes on by its own steps.
+impl<F, O, D, P, W> System for World<F, O, D, P, W>
+where
+    F: TaskFuture<Cx<F, O, P, D::Unpark, W>, Output = O> + Drop,
+    O: Outcome + Drop,
+    D: Driver,
+    P: ThreadPool + Drop,
+    W: SharedState + Drop,
+{
+    ghost can_step = { IsSound F.TaskFuture };
+
+    ghost steps = { Steps O.output_number W.SharedState D.Clock F.TaskFuture };
+
+    fn make_step<R: Host>(&mut self, rt: &R, alloc: Global) -> Result<Step, AllocError> {
+        self.step(rt, alloc)
     }
 }
 

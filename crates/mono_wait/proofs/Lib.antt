@@ -4,3 +4,4 @@ pub mod ParkLemmas
 mod CallLemmas
 pub mod WatcherLemmas
 mod PlaceLemmas
+pub mod FoundLemmas

@@ -102,12 +102,13 @@ module _ {F O P U W J A V : Type 0} (number : O → ℕ) (sharing : SharedOf W) 
     known_after true owed known goes m store reading steps e answer left tells is n = own_turn m store reading steps e answer left tells is n
     known_after false owed known goes m store reading steps e answer left tells is o = goes o
 
-    pub stays_listed : (part : List Entry) (known : List ℕ → ℕ → Type 0) (paid owed : Type 0) (m : Machine) (store : Store F W) (reading : ℕ) → (owed → known p t)
+    pub stays_listed : (part : List Entry) (known : List ℕ → ℕ → Type 0) (paid owed : Type 0) (m : Machine) (store : Store F W) (reading : ℕ) → (owed → known p t) → (owed → paid)
         → FindsListed number sharing future has_timers lasts known paid m store reading part → StaysListed number sharing future waits_in has_timers lasts t p owed m store reading part
-    stays_listed [] known paid owed m store reading goes finds = tt
-    stays_listed (Now n ∷ part) known paid owed m store reading goes finds = stays_listed part known paid owed m store n goes finds
-    stays_listed (Park wait ∷ part) known paid owed m store reading goes (claim, (clear, finds)) = (λ o unfinished. claim p t (goes o) unfinished, stays_listed part known paid owed m store reading goes finds)
-    stays_listed (Ran (event.Turn steps e) answer ∷ part) known paid owed m store reading goes (mid, (left, (step, (tells, finds)))) = (
+    stays_listed [] known paid owed m store reading goes turned finds = tt
+    stays_listed (Now n ∷ part) known paid owed m store reading goes turned finds = stays_listed part known paid owed m store n goes turned finds
+    stays_listed (Park wait ∷ part) known paid owed m store reading goes turned (claim, (clear, finds)) =
+        (λ o unfinished. (claim p t (goes o) unfinished, clear (turned o)), stays_listed part known paid owed m store reading goes turned finds)
+    stays_listed (Ran (event.Turn steps e) answer ∷ part) known paid owed m store reading goes turned (mid, (left, (step, (tells, finds)))) = (
       mid,
       (
         left,
@@ -116,19 +117,19 @@ module _ {F O P U W J A V : Type 0} (number : O → ℕ) (sharing : SharedOf W) 
           tells,
           stays_listed part (λ q u. KnownAfter (is_turn_of u answer) (LeavesListed number sharing future has_timers lasts m store reading steps e answer left tells q u) (known q u)) ⊤
               (OwedAfter number sharing future waits_in has_timers lasts t p (is_turn_of t answer) owed store left e) mid left reading
-              (known_after (is_turn_of t answer) owed (known p t) goes m store reading steps e answer left tells refl) finds,
+              (known_after (is_turn_of t answer) owed (known p t) goes m store reading steps e answer left tells refl) (λ o. tt) finds,
         ),
       ),
     )
-    stays_listed (Ran (event.Act a) answer ∷ part) known paid owed m store reading goes (mid, (none, (step, finds))) = (mid, (none, step, stays_listed part known paid owed mid store reading goes finds))
-    stays_listed (Ran (event.Clock n) answer ∷ part) known paid owed m store reading goes (mid, (step, finds)) = (mid, (step, stays_listed part known paid owed mid store reading goes finds))
-    stays_listed (Ran (event.Remote u) answer ∷ part) known paid owed m store reading goes (mid, (step, finds)) = (mid, (step, stays_listed part known paid owed mid store reading goes finds))
-    stays_listed (Ran event.Drain answer ∷ part) known paid owed m store reading goes (mid, (step, finds)) = (mid, (step, stays_listed part known paid owed mid store reading goes finds))
+    stays_listed (Ran (event.Act a) answer ∷ part) known paid owed m store reading goes turned (mid, (none, (step, finds))) = (mid, (none, step, stays_listed part known paid owed mid store reading goes turned finds))
+    stays_listed (Ran (event.Clock n) answer ∷ part) known paid owed m store reading goes turned (mid, (step, finds)) = (mid, (step, stays_listed part known paid owed mid store reading goes turned finds))
+    stays_listed (Ran (event.Remote u) answer ∷ part) known paid owed m store reading goes turned (mid, (step, finds)) = (mid, (step, stays_listed part known paid owed mid store reading goes turned finds))
+    stays_listed (Ran event.Drain answer ∷ part) known paid owed m store reading goes turned (mid, (step, finds)) = (mid, (step, stays_listed part known paid owed mid store reading goes turned finds))
 
     pub polled_listed : (part : List Entry) (m : Machine) (store : Store F W) (reading : ℕ) → PolledBy number sharing future has_timers lasts m store reading part
         → StaysListed number sharing future waits_in has_timers lasts t p ⊥ m store reading part
     polled_listed part m store reading polled =
-        stays_listed part (λ q u. ⊥) ⊥ ⊥ m store reading (λ none. none) (finds_listed number sharing future has_timers lasts part (λ q u. ⊥) ⊥ m store reading (λ q u none. absurd none) (λ none. absurd none) polled)
+        stays_listed part (λ q u. ⊥) ⊥ ⊥ m store reading (λ none. none) (λ none. none) (finds_listed number sharing future has_timers lasts part (λ q u. ⊥) ⊥ m store reading (λ q u none. absurd none) (λ none. absurd none) polled)
 
   pub call_listed : (has_timers lasts : Bool) (first : F) (store left : Store F W) (old new : Machine) (part : List Entry)
       → ((rest : List Entry) → ParksListedMain number sharing future has_timers lasts first store left old (part ++ rest) new rest) → ListedInCall number sharing future waits_in has_timers lasts first store old part
@@ -141,7 +142,7 @@ module _ {F O P U W J A V : Type 0} (number : O → ℕ) (sharing : SharedOf W) 
         spawned = mid;
         more = more;
         spawn = spawn;
-        listed = λ reading u p.
-            stays_listed has_timers lasts u p more (λ q v. ⊥) ⊥ ⊥ mid (with_future store first) reading (λ none. none)
+        finds = λ reading u p.
+            stays_listed has_timers lasts u p more (λ q v. ⊥) ⊥ ⊥ mid (with_future store first) reading (λ none. none) (λ none. none)
             (finds (λ n. tt) reading);
       }

@@ -19,6 +19,7 @@ pub mod WaitPlaces
 pub mod FormPlaces
 pub mod JoinPlaces
 pub mod JournalPlaces
+pub mod RunPlaces
 pub mod Frames
 pub mod Leads
 pub mod Sequences

@@ -1,5 +1,5 @@
 //! The effects of a pending poll and of a pending turn on their task in the machine, as functions that do nothing.
-ghost use Rattle.std.specs.Prelude.{◌≡◌, ℕ, Bool, true, false, List, ◌++◌, Some};
+ghost use Rattle.std.specs.Prelude.{◌≡◌, ℕ, Bool, true, false, List, ◌++◌, Some, Result};
 ghost use Rattle.mono_model.specs.declared.poll.Poll.{Poll};
 ghost use Rattle.mono_machine.specs.Machine.{Machine};
 ghost use Rattle.mono_machine.specs.Watches as machine;
@@ -8,7 +8,10 @@ ghost use Rattle.mono_machine.specs.declared.events.End.TheVariants as end;
 ghost use Rattle.mono_machine.specs.declared.events.Report.{Report};
 ghost use Rattle.mono_rt.specs.declared.parts.journals.Entry.{Entry};
 ghost use Rattle.mono_rt.specs.Stores.{Store};
-ghost use Rattle.mono_rt.specs.FuturePolls.{TellsTurn, Polled, PolledBy, PollsMain};
+ghost use Rattle.mono_rt.specs.declared.parts.errors.RunError.{RunError};
+ghost use Rattle.mono_rt.specs.declared.runtimes.Runtime.{Runtime};
+ghost use Rattle.mono_rt.specs.Views.{FindsTasksListedMain};
+ghost use Rattle.mono_rt.specs.FuturePolls.{TellsTurn, Polled, PolledBy, PollsMain, OnMain};
 ghost use Rattle.mono_rt.specs.ListedTasks.{ParksListedMain};
 ghost use Rattle.mono_wait.specs.Sources.{in_machine, of_place, of_threads, of_peers, machine_needs, NeedsOne};
 ghost use Rattle.mono_wait.specs.Registers.{Registers};
@@ -16,6 +19,7 @@ ghost use Rattle.mono_wait.specs.PendingTurns.{LeavesWaiting};
 ghost use Rattle.mono_wait.specs.JournalWaits.{Waiting};
 ghost use Rattle.mono_wait.specs.CallWaits.{WaitsInCall};
 ghost use Rattle.mono_wait.specs.JournalPlaces.{StaysListed, ListedInCall};
+ghost use Rattle.mono_wait.specs.RunPlaces.{ParksList};
 
 use crate::machines::MachineContext;
 use crate::placed::WaitsIn;
@@ -24,7 +28,7 @@ use mono_blocking::ThreadPool;
 use mono_inbox::Unpark;
 use mono_joinword::Outcome;
 use mono_machine::laws::what_a_turn_registers_stands;
-use mono_rt::Cx;
+use mono_rt::{Cx, Driver};
 use mono_task::SharedState;
 
 /// Shows that a pending future needs at least one source, or its task was woken in the poll. So a future that registers
@@ -94,8 +98,9 @@ where
 }
 
 /// Shows, for a history whose turns are polls (the clause `polled` of `block_on`), that each park finds its tasks listed.
-/// At each park, the shared value lists a task t at a place p under two conditions. It has not finished; its last turn
-/// ended pending, and left a future that waits at p. Nothing is claimed for the beginning of the history.
+/// At each park, the shared value lists a task t at a place p and owes no wake, under two conditions. The task has not
+/// finished; its last turn ended pending, and left a future that waits at p. Nothing is claimed for the beginning of the
+/// history.
 pub fn each_park_finds_its_tasks_listed<F, O, P, U, W>()
 where
     F: WaitsIn<W, Cx<F, O, P, U, W>, Output = O> + Drop,
@@ -110,7 +115,8 @@ where
 
 /// Shows that each park of one call of `block_on` finds its tasks listed. The premise is the call's clause `listed`; the
 /// claim is about the history, so no journal has to be kept. At each park, the shared value lists a task t at a place p
-/// if it has not finished, and its last turn in this call ended pending and left a future that waits at p.
+/// and owes no wake, if the task has not finished, and its last turn in this call ended pending and left a future that
+/// waits at p.
 pub fn each_park_of_a_call_finds_its_tasks_listed<F, O, P, U, W>()
 where
     F: WaitsIn<W, Cx<F, O, P, U, W>, Output = O> + Drop,
@@ -122,6 +128,22 @@ where
         → ((rest : List Entry) → ParksListedMain O.output_number W.SharedState F.TaskFuture has_timers lasts first store left old (part ++ rest) new rest)
         → ListedInCall O.output_number W.SharedState F.TaskFuture F.waits_in has_timers lasts first store old part }
 {}
+
+/// Shows the same from the clause `listed` of `block_on` as it stands, for each answer. So a caller of `block_on` cites this
+/// law with that clause alone (`example_waits/src/gate.rt`).
+pub fn each_park_of_block_on_finds_its_tasks_listed<F, O, D, P, W>()
+where
+    F: WaitsIn<W, Cx<F, O, P, D::Unpark, W>, Output = O> + Drop,
+    O: Outcome + Drop,
+    D: Driver,
+    P: ThreadPool + Drop,
+    W: SharedState + Drop,
+    ensures { (answer : Result O RunError) (main : F) (old new : Runtime F O D P W D.Unpark P.Job P.Job.Output P.Job.Unpark)
+        → OnMain answer (FindsTasksListedMain O.output_number W.SharedState F.TaskFuture main old new)
+        → OnMain answer (ParksList O.output_number W.SharedState F.TaskFuture F.waits_in main old new) }
+{
+    each_park_of_a_call_finds_its_tasks_listed::<F, O, P, D::Unpark, W>();
+}
 
 /// Shows that a context names a task as one that waits for threads only if it is the running one, and a waker of it was
 /// handed out in this turn.

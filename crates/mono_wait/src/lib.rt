@@ -18,6 +18,7 @@ mod leaves;
 mod locks;
 mod machines;
 mod needing;
+mod nowhere;
 mod outsides;
 mod peers;
 mod placed;
