@@ -130,7 +130,7 @@ where
 {}
 
 /// Shows the same from the clause `listed` of `block_on` as it stands, for each answer. So a caller of `block_on` cites this
-/// law with that clause alone, and `proofs/FoundLemmas` for what follows at each park.
+/// law with that clause alone (`example_waits/src/gate.rt`).
 pub fn each_park_of_block_on_finds_its_tasks_listed<F, O, D, P, W>()
 where
     F: WaitsIn<W, Cx<F, O, P, D::Unpark, W>, Output = O> + Drop,
