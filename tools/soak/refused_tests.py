@@ -32,20 +32,23 @@ def ran(program, shim, test, refused):
     return run.returncode, run.stdout.decode(errors="replace"), allocations
 
 
+def must_pass(program, shim, test, refused):
+    """Runs a test, ends the soak if it fails, and returns how many allocations there were."""
+    try:
+        status, output, allocations = ran(program, shim, test, refused)
+    except subprocess.TimeoutExpired:
+        sys.exit(f"{test}, allocation {refused} refused: it had not ended after {LIMIT} seconds")
+    if status != 0:
+        sys.exit(f"{output}{test}, allocation {refused} refused: status {status}")
+    return allocations
+
+
 def tried(program, shim, test):
     """Refuses each allocation of the test in turn, and returns how many there are."""
-    allocations = 0
-    for n in range(1_000_000):
-        try:
-            status, output, counted = ran(program, shim, test, n)
-        except subprocess.TimeoutExpired:
-            sys.exit(f"{test}, allocation {n} refused: it had not ended after {LIMIT} seconds")
-        if status != 0:
-            sys.exit(f"{output}{test}, allocation {n} refused: status {status}")
-        allocations = max(allocations, counted)
-        if n == allocations:
-            return n
-    sys.exit(f"{test}: each run allocates more")
+    allocations = must_pass(program, shim, test, 0)
+    for n in range(1, allocations + 1):
+        must_pass(program, shim, test, n)
+    return allocations
 
 
 def main():
