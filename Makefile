@@ -16,7 +16,7 @@
 #   make soak        random inputs for a minute (SECONDS=n), each report checked by an independent machine; their journals
 #                    too; then each allocation, read and write fails in turn, scripts run with workers, sleeps in
 #                    far slots take their bounded time, and each library call that leaves its object as it was is
-#                    refused memory
+#                    refused memory, as are the tests of channels and locks that repeat a refused call
 #   make soak-threads  runs larger tests of threads once (1,000,000 parks, 32 workers, 64 threads at an inbox), and repeats
 #                    the others for a minute (SECONDS=n), some of them under valgrind's helgrind
 #   make year        simulates a year of a lease server (EVENTS=100000000): its memory has to stay flat, and its answers
@@ -99,6 +99,8 @@ soak: build
 	python3 tools/soak/far.py bin/monoio
 	@python3 tools/build.py test_out_of_memory bin/refused
 	python3 tools/soak/refused.py bin/refused
+	@python3 tools/build.py test_sync bin/refused_tests
+	python3 tools/soak/refused_tests.py bin/refused_tests
 
 soak-threads: has-rt
 	python3 tools/soak/threads.py $(SECONDS)

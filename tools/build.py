@@ -1,5 +1,5 @@
 #!/usr/bin/env python3
-"""Proves a program and the crates below it, and keeps the program.
+"""Proves a program, or a library's tests, and the crates below, and keeps the program.
 
 usage: tools/build.py CRATE [PROGRAM]
        tools/build.py --try CRATE
@@ -8,7 +8,8 @@ usage: tools/build.py CRATE [PROGRAM]
 The crate and those below it are copied to a folder of their own. There `rt ci` proves them side by side, each once its
 libraries are proved, and compares the program's stored run. If the kit keeps proofs, neither CI nor the next build proves a
 crate again whose files are the same. No mutant is tried. The program is kept as PROGRAM, or else as bin/CRATE, and what rt
-prints as bin/CRATE.log. A program that was built from the same files by the same kit stays.
+prints as bin/CRATE.log. A program that was built from the same files by the same kit stays. A library's program is that of
+its tests.
 
 With --try nothing is proved or kept, but the stored run is compared. With --lay the copy is made in the new FOLDER, and
 stays: there rt works on a crate that is kept as text as on any other.
@@ -55,6 +56,13 @@ def keep(made, program, made_from):
         out.write(made_from)
 
 
+def made_of(folder, crate):
+    """The path of the program that `rt ci` makes of a crate: its own, or that of its tests if it is a library."""
+    home = os.path.join(folder, "crates", crate)
+    is_program = os.path.exists(os.path.join(home, "src", "main.rt"))
+    return os.path.join(home, "out", crate if is_program else f"{crate}_tests")
+
+
 def build(crate, program, log):
     """Proves and keeps the program, unless it is built; returns the status of rt."""
     with tempfile.TemporaryDirectory(prefix="build-") as folder:
@@ -65,7 +73,7 @@ def build(crate, program, log):
         print(f"proving {crate} and the crates below it; log: {log}", flush=True)
         status = progress.run_ci(folder, crates, log)
         if status == 0:
-            keep(os.path.join(folder, "crates", crate, "out", crate), program, made_from)
+            keep(made_of(folder, crate), program, made_from)
     return status
 
 

@@ -65,8 +65,10 @@ def channels(b):
         return
     count, runs = "1000000", b.runs
     b.runs = 7
-    words = ("mpsc", "permits", "oneshot", "waits", "threads")
-    rows = [(f"{word} {count}", [b.bench, "channels", word, count], [program, word, count], None) for word in words]
+    words = ("mpsc", "keyed", "permits", "oneshot", "waits", "threads")
+    # tokio has no channels by key.
+    plain = {word: [program, word, count] for word in words if word != "keyed"}
+    rows = [(f"{word} {count}", [b.bench, "channels", word, count], plain.get(word), None) for word in words]
     b.table("Channels", "mono_bench channels WORKLOAD N", rows, "tokio")
     keyed(b, count)
     b.runs = runs
