@@ -1,4 +1,4 @@
-//! A task that waits for a permit, and one that releases it after a sleep. No park finds a lost wake.
+//! Tasks that wait for permits which nobody releases. No park finds a lost wake.
 ghost use Rattle.mono_rt.specs.FuturePolls.{OnMain};
 ghost use Rattle.mono_rt.specs.Views.{Rests};
 ghost use Rattle.mono_wait.specs.RunPlaces.{ParksFind};
@@ -7,13 +7,12 @@ ghost use Rattle.example_waits.specs.Gates.{StandsInLine};
 use mono_forms::FutureExt;
 use mono_rt::{
     Cx, Host, NoPool, NoUnpark, Outcome, RunError, Runtime, RuntimeBuilder, SharedState,
-    SleepError, StepDriver, TimeDriver, sleep_for,
+    StepDriver, TimeDriver,
 };
-use mono_sync::{Acquire, AcquireError, Only, Semaphore, TooManyPermits, acts, laws};
+use mono_sync::{Acquire, AcquireError, Only, Semaphore, laws};
 use mono_wait::laws::each_park_of_block_on_finds_its_tasks_listed;
 use mono_wait::{Reaching, WaitsIn};
 use std::alloc::Global;
-use std::time::Duration;
 
 type Shared = Only<Semaphore>;
 
@@ -35,26 +34,25 @@ fn run<F: WaitsIn<Shared, Cx<F, u64, NoPool, NoUnpark, Shared>, Output = u64> + 
     runtime.block_on(rt, alloc, main, 100)
 }
 
-// Runs two tasks that share a semaphore without a permit. Returns the output of the second.
-fn run_both<F, R: Host>(rt: &R, alloc: Global, first: F, second: F) -> Option<u64>
+// Runs two tasks that share a semaphore with these permits. Returns the output of the second.
+fn run_both<F, R: Host>(rt: &R, alloc: Global, permits: usize, first: F, second: F) -> Option<u64>
 where
     F: WaitsIn<Shared, Cx<F, u64, NoPool, NoUnpark, Shared>, Output = u64> + Drop,
     requires callable { (f : F) → F.can_poll f }
 {
     let driver = TimeDriver::new(StepDriver::new(Vec::new(alloc)));
     let builder: RuntimeBuilder<Steps, NoPool> = RuntimeBuilder::new(driver);
-    let part = Semaphore::new(alloc, 0);
+    let part = Semaphore::new(alloc, permits);
     let mut runtime = builder.build_sharing(alloc, Only { part }).ok()?;
     runtime.spawn(alloc, first).ok()?;
     run(rt, alloc, &mut runtime, second).ok()
 }
 
-/// Waits for a permit that another task releases after some milliseconds. Returns how many permits came: 1, or 0.
-pub fn wait_at_gate<R: Host>(rt: &R, alloc: Global, millis: u64) -> Option<u64> {
-    let (release, future) = (acts::release::<Shared>(), Acquire::<Shared>::new());
-    let keeper = sleep_for(Duration::from_millis(millis))
-        .then(move |_: Result<(), SleepError>| Reaching { future: release })
-        .map(|released: Result<(), TooManyPermits>| u64::from(released.is_ok()));
-    let visitor = Reaching { future }.map(|got: Result<(), AcquireError>| u64::from(got.is_ok()));
-    run_both(rt, alloc, keeper.left_future(), visitor.right_future())
+/// Runs two tasks that take a permit each. Returns 1 if the second got one, or None if it still waits after 100 turns.
+pub fn wait_at_gate<R: Host>(rt: &R, alloc: Global, permits: usize) -> Option<u64> {
+    let visitor = |future: Acquire<Shared>| {
+        Reaching { future }.map(|got: Result<(), AcquireError>| u64::from(got.is_ok()))
+    };
+    let (first, second) = (visitor(Acquire::new()), visitor(Acquire::new()));
+    run_both(rt, alloc, permits, first, second)
 }

@@ -7,8 +7,11 @@ use gate::wait_at_gate;
 use std::io;
 
 fn main(rt: HostRuntime) -> io::Result<()> {
-    match wait_at_gate(&rt, rt.alloc(), 5) {
-        Some(passed) => println!(rt; "gate: {passed} passed"),
-        None => println!(rt; "gave up"),
+    for permits in [1, 2] {
+        match wait_at_gate(&rt, rt.alloc(), permits) {
+            Some(passed) => println!(rt; "a gate of {permits}: {passed} passed")?,
+            None => println!(rt; "a gate of {permits}: still waits")?,
+        }
     }
+    Ok(())
 }
