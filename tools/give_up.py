@@ -49,6 +49,10 @@ HELD = [
 ]
 
 
+# crates whose program is about what nobody gives up
+KEPT = {"example_waits": "takes a permit"}
+
+
 def code(crate):
     """The crate's lines without comments and white space at their ends."""
     text = ""
@@ -99,9 +103,11 @@ def crates():
 def main():
     status = 0
     for crate in crates():
+        name = os.path.basename(crate)
         for thing in forgotten(code(crate)):
-            print(f"{os.path.basename(crate)} {thing}")
-            status = 1
+            if not thing.startswith(KEPT.get(name, "-")):
+                print(f"{name} {thing}")
+                status = 1
     return status
 
 
