@@ -56,11 +56,6 @@ where
 
     /// Returns the world of a seed in which each of these futures runs on a runtime of its own, with the defaults and a
     /// journal, in their order (`count`). Returns None if out of memory.
-    ///
-    /// ```rust
-    /// // example_sim/src/elections.rt
-    ///         let world = World::launched(alloc, seed, odds, peers)?;
-    /// ```
     pub fn launched(
         alloc: Global,
         seed: u64,

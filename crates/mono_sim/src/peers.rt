@@ -13,11 +13,6 @@ pub trait Peer {
 
 /// The task of a peer, which acts once a millisecond until it ends. Its output is that of the peer, or 0 if a sleep is
 /// refused.
-///
-/// ```rust
-/// // example_sim/src/elections.rt
-///         peers.push(PeerTask::new(peer)).ok()?;
-/// ```
 #[derive(Drop)]
 pub struct PeerTask<P> {
     peer: P,

@@ -197,11 +197,6 @@ where
 ///
 /// Fails if a trial of one of these seeds could not be made or ran out of memory (`within`). Each earlier seed passed
 /// (`untried`).
-///
-/// ```rust
-/// // example_sim/src/elections.rt
-///     match simulate(rt, alloc, make, check, 0..1000, odds, 2000)? {
-/// ```
 pub fn simulate<T, X, R, M, K>(
     rt: &R,
     alloc: Global,
