@@ -1,11 +1,13 @@
-//! Tests of chains by forms, over a context that logs what they do and on a runtime; of blocking jobs as futures; and of
-//! futures that spawn and start jobs through any context.
+//! Tests of chains by forms, over a context that logs what they do and on a runtime; of a channel's items and messages; of
+//! blocking jobs as futures; and of futures that spawn and start jobs through any context.
 #![tactic(auto)]
 
 #[cfg(test)]
 mod answers;
 #[cfg(test)]
 mod chains;
+#[cfg(test)]
+mod channels;
 #[cfg(test)]
 mod contexts;
 #[cfg(test)]
