@@ -11,6 +11,7 @@ With words it does these rows alone:
 - small: sizes that are too small
 - hostile: lines that are nearly requests, and lines longer than a block, whose tails would be requests
 - quiet: an input that stands still while the clock closes a session whose lock another waits for
+- idle: a server that has nothing to do while acquires wait: it takes no processor time
 - crowd: 60,000 waits that end at once, in one text
 - reader: a reader of the replies that pauses until all channels are full, and then is slow to the end
 - end: a reader that pauses until the input has ended, and a wait whose end finds no place for its text
@@ -38,7 +39,7 @@ from load import Load
 from run import LATE, LIMIT, SIZES, Server, check, serve
 
 TOP = pathlib.Path(__file__).resolve().parent.parent.parent
-NAMES = ["cut", "silent", "hot", "small", "hostile", "quiet", "crowd", "reader", "end", "core", "failed", "refused", "threadless"]
+NAMES = ["cut", "silent", "hot", "small", "hostile", "quiet", "idle", "crowd", "reader", "end", "core", "failed", "refused", "threadless"]
 BLOCK = 65536
 # Without a thread; out of memory, or without a thread.
 THREADLESS = 7
@@ -182,6 +183,46 @@ def reader(server):
                 time.sleep(0.005)
             program.stdout.close()
         judge("a reader that pauses and is slow", program, folder, is_full)
+
+
+def used(program):
+    """The seconds of processor time that a program has used."""
+    words = pathlib.Path(f"/proc/{program.pid}/stat").read_text("ascii").rpartition(")")[2].split()
+    return (int(words[11]) + int(words[12])) / os.sysconf("SC_CLK_TCK")
+
+
+def used_for(program, seconds):
+    """The seconds of processor time that a program uses in this time."""
+    before = used(program)
+    time.sleep(seconds)
+    return used(program) - before
+
+
+def idle(server):
+    """Acquires wait: first while the reader pauses, with sessions that are due; then while no line comes."""
+    with tempfile.TemporaryDirectory() as name:
+        folder = pathlib.Path(name)
+        size = long_load(folder / "lines")
+        with open(folder / "lines", "rb") as source, open(folder / "replies", "wb") as out:
+            program = start(server, stdin=source, stdout=subprocess.PIPE)
+            is_full = waits_early(program, size, 0.5)
+            # the sessions of the load close within three seconds
+            time.sleep(3)
+            paused = used_for(program, 2)
+            out.write(program.stdout.read())
+            program.stdout.close()
+        judge("acquires that wait while the reader pauses", program, folder, is_full)
+    key = next(key for key in range(100) if checker.core_of(key, 2) == 0)
+    with tempfile.TemporaryDirectory() as name:
+        served = Server([server, "2", *SIZES], name)
+        served.send((f"open {key} 60000\n" * 2 + f"acquire {key} 0\nacquire {key} 1\n").encode())
+        time.sleep(0.5)
+        quiet = used_for(served.program, 2)
+        if served.end() != 0 or not check(2, served.lines, served.replies, served.times):
+            sys.exit("acquires that wait while no line comes")
+    if max(paused, quiet) > 0.2:
+        sys.exit(f"in 2 seconds a server with nothing to do took {paused:.2f} and {quiet:.2f} seconds of processor time")
+    print("nothing to do: no processor time", flush=True)
 
 
 def are_asleep(program):

@@ -25,7 +25,8 @@ impl CoreTask {
         CoreTask { nap: None }
     }
 
-    // Sleeps until a session may close, if an acquire waits.
+    // Sleeps until a session may close, if an acquire waits. While a text waits for a place, the core performs nothing, and
+    // the writer wakes the task.
     fn rest<C: TimeContext + SharedContext<Station>, R: Host>(
         &mut self,
         rt: &R,
@@ -34,7 +35,7 @@ impl CoreTask {
     )
         ensures { C.reaches cx.old cx.new }
     {
-        if cx.shared().waiting() == 0 {
+        if cx.shared().waiting() == 0 || cx.shared().has_unsent() {
             return;
         }
         if let Some(tick) = cx.shared().next_close() {

@@ -95,6 +95,13 @@ impl Station {
         self.desk.waiting()
     }
 
+    /// Returns whether a text waits for a place in its channel.
+    pub fn has_unsent(&self) -> bool
+        ensures { result ≡ false → self.now.texts.message ≡ None }
+    {
+        !self.texts.is_empty()
+    }
+
     /// Returns the next tick at which the clock may close a session, and so end a wait, as [`Desk::next_close`] does.
     pub fn next_close(&self) -> Option<u64>
         ensures { (s : CoreState) → Refines self.now.desk.core s → IsInTime s.keeper result }
